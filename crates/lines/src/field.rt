@@ -1,0 +1,20 @@
+// A field, by where it stands in its text.
+ghost use mathlib.Core.Path.{_≡_};
+ghost use Rattle.lines.specs.Fields.{bytesOf};
+
+#[derive(Clone, Copy, PartialEq, Eq, Debug)]
+pub struct Field {
+    pub start: usize,
+    pub len: usize,
+}
+
+impl Field {
+    // The part of `text` that the field is; in a text that ends before, as much of it as there is.
+    pub fn bytes<'a>(self, text: &'a [u8]) -> &'a [u8]
+        ensures { λ r. ⌜ now r ≡ bytesOf (now (text .entry)) self ⌝ }
+    {
+        let start = self.start.min(text.len());
+        let len = self.len.min(text.len() - start);
+        &text[start..start + len]
+    }
+}

@@ -1,0 +1,5 @@
+// Comma-separated records of a byte text.
+pub mod fault;
+pub mod field;
+pub mod reader;
+pub mod scan;
