@@ -1,3 +1,9 @@
 pub mod Parts
 pub mod Bodies
 pub mod Parting
+pub mod Pieces
+pub mod Endings
+pub mod Taken
+pub mod Forward
+pub mod Rejoining
+pub mod Accepting

@@ -2,10 +2,12 @@
 use mathlib.Core.Path.{_≡_, ap, sym, _∙_}
 use mathlib.Core.List.{List}
 use mathlib.Core.Logic.{⊎-elim}
-use Prim.Native.Nat.{ℕ, min, _-_, _≤_, _<_}
-use native.Mathlib.Nat.{min-eq-left, min-eq-right}
+use Prim.Native.Nat.{ℕ, min, _+_, _-_, _≤_, _<_}
+use native.Mathlib.Nat.{min-eq-left, min-eq-right, min-le-right}
 use native.Mathlib.Omega.{arith}
-use lib.ListN.{length, take, drop, length-drop}
+use lib.ListN.{length, take, drop, length-take, length-drop}
+use Rattle.lines.specs.declared.field.Field.{Field}
+use Rattle.lines.specs.Fields.{bytesOf}
 use Rattle.std.proofs.shelf.Lists.{take-all, drop-all}
 use Rattle.std.proofs.shelf.Tests.{cases-lt}
 
@@ -29,3 +31,8 @@ part-cut start len xs =
     ap (λ k. take (min len k) (drop (min start (length xs)) xs)) (sym (length-drop (min start (length xs)) xs))
     ∙ take-cut len (drop (min start (length xs)) xs)
     ∙ ap (take len) (drop-cut start xs)
+
+-- a field that holds a byte of its text ends within the text
+pub bytes-within : (text : List ℕ) (f : Field) → 0 < length (bytesOf text f) → f .start + length (bytesOf text f) ≤ length text
+bytes-within text f =
+    simp (length-take, length-drop) (λ h. omega (arith, min-le-right (f .len) (length text - f .start)))

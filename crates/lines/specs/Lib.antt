@@ -2,3 +2,4 @@ pub mod Refusals
 pub mod Fields
 pub mod Scanning
 pub mod Reading
+pub mod Texts

@@ -59,3 +59,9 @@ abbrev pub placeAfter : ℕ → Result (Option (List Field × ℕ)) LinesFault �
 placeAfter place (Ok None) = place
 placeAfter place (Ok (Some read)) = read .1
 placeAfter place (Err f) = place
+
+-- what holds if a record came
+abbrev pub WithRecord : Result (Option (List Field)) LinesFault → Type 0 → Type 0
+WithRecord (Ok None) P = Unit {0}
+WithRecord (Ok (Some r)) P = P
+WithRecord (Err f) P = Unit {0}

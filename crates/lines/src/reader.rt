@@ -4,7 +4,8 @@ ghost use Prim.Native.Nat.{_+_, _^_, _≤_, _<_};
 ghost use lib.ListN.{length};
 ghost use Rattle.std.specs.Results.{Cases};
 ghost use Rattle.std.specs.declared.result.Result.the-variants.{Ok, Err};
-ghost use Rattle.lines.specs.Reading.{countedAs, recordIn, recordAt, opened, nextRecord, fieldsIn, placeAfter};
+ghost use Rattle.lines.specs.Reading.{countedAs, recordIn, recordAt, opened, nextRecord, fieldsIn, placeAfter, WithRecord};
+ghost use Rattle.lines.specs.Texts.{Rejoins, Reads-written};
 use crate::fault::LinesFault;
 use crate::field::Field;
 use crate::scan::Ending;
@@ -73,7 +74,9 @@ fn record_at<const WIDTH: usize>(
 impl<'a, const WIDTH: usize> Records<'a, WIDTH> {
     // Takes a text of at most `limit` bytes and reads its first record, the header.
     pub fn open(text: &'a [u8], limit: usize) -> Result<Self, LinesFault>
-        ensures { λ r. ⌜ Cases r (λ q. (now (q .text) ≡ now (text .entry)) × (opened WIDTH limit (now (text .entry)) ≡ Ok (q .header, q .position .place))) (λ f. opened WIDTH limit (now (text .entry)) ≡ Err f) ⌝ }
+        ensures result { λ r. ⌜ Cases r (λ q. (now (q .text) ≡ now (text .entry)) × (opened WIDTH limit (now (text .entry)) ≡ Ok (q .header, q .position .place))) (λ f. opened WIDTH limit (now (text .entry)) ≡ Err f) ⌝ }
+        ensures rejoins { λ _. ⌜ Rejoins WIDTH limit (now (text .entry)) ⌝ }
+        ensures accepts { λ _. ⌜ Reads-written WIDTH limit (now (text .entry)) ⌝ }
     {
         if text.len() > limit {
             return Err(LinesFault::TooLong);
@@ -102,6 +105,7 @@ impl<'a, const WIDTH: usize> Records<'a, WIDTH> {
     pub fn next_record(&mut self) -> Result<Option<[Field; WIDTH]>, LinesFault>
         ensures read { λ r. ⌜ r ≡ fieldsIn (nextRecord WIDTH (now (now (self .entry) .text)) (now (self .entry) .position .place)) ⌝ }
         ensures moved { λ _. ⌜ now (self .exit) .position .place ≡ placeAfter (now (self .entry) .position .place) (nextRecord WIDTH (now (now (self .entry) .text)) (now (self .entry) .position .place)) ⌝ }
+        ensures forward { λ r. ⌜ WithRecord r ((now (self .entry) .position .place < now (self .exit) .position .place) × (now (self .exit) .position .place ≤ length (now (now (self .entry) .text)))) ⌝ }
         ensures kept { λ _. ⌜ (now (self .exit) .text ≡ now (self .entry) .text) × (now (self .exit) .header ≡ now (self .entry) .header) ⌝ }
     {
         let place = self.position.place;

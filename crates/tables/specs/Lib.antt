@@ -1,0 +1,9 @@
+pub mod Refusals
+pub mod Naming
+pub mod Heading
+pub mod Numbering
+pub mod Telling
+pub mod Rowing
+pub mod Entering
+pub mod Folding
+pub mod Tabling
