@@ -2,4 +2,4 @@
 pub mod fault;
 pub mod field;
 pub mod reader;
-pub mod scan;
+mod scan;

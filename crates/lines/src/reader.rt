@@ -95,12 +95,6 @@ impl<'a, const WIDTH: usize> Records<'a, WIDTH> {
         self.header
     }
 
-    pub fn position(&self) -> Position
-        ensures { λ r. ⌜ r ≡ now (self .entry) .position ⌝ }
-    {
-        self.position
-    }
-
     // The next record, or none at the end of the text. A refusal leaves the reader where it stood.
     pub fn next_record(&mut self) -> Result<Option<[Field; WIDTH]>, LinesFault>
         ensures read { λ r. ⌜ r ≡ fieldsIn (nextRecord WIDTH (now (now (self .entry) .text)) (now (self .entry) .position .place)) ⌝ }

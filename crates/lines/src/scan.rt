@@ -8,7 +8,7 @@ use crate::field::Field;
 
 // What follows the last field of a record.
 #[derive(Clone, Copy)]
-pub enum Ending {
+pub(crate) enum Ending {
     Text,
     Line,
     Stray,
@@ -22,7 +22,7 @@ fn in_record(b: u8) -> bool
 }
 
 // How many bytes of fields and commas stand in front.
-pub fn body_len(bytes: &[u8]) -> usize
+pub(crate) fn body_len(bytes: &[u8]) -> usize
     ensures value { λ r. ⌜ r ≡ length (body (now (bytes .entry))) ⌝ }
     ensures within { λ r. ⌜ r ≤ length (now (bytes .entry)) ⌝ }
 {
@@ -34,7 +34,7 @@ pub fn body_len(bytes: &[u8]) -> usize
     bytes.len()
 }
 
-pub fn what_ends(behind: &[u8]) -> Ending
+pub(crate) fn what_ends(behind: &[u8]) -> Ending
     ensures { λ r. ⌜ r ≡ endingOf (now (behind .entry)) ⌝ }
 {
     match behind {
@@ -46,7 +46,7 @@ pub fn what_ends(behind: &[u8]) -> Ending
 }
 
 // The fields of a record whose bytes begin at `place`, if there are WIDTH of them.
-pub fn split<const WIDTH: usize>(bytes: &[u8], place: usize) -> Option<[Field; WIDTH]>
+pub(crate) fn split<const WIDTH: usize>(bytes: &[u8], place: usize) -> Option<[Field; WIDTH]>
     requires { ⌜ place + length (now bytes) < 2 ^ 64 ⌝ }
     ensures { λ r. ⌜ r ≡ exactly WIDTH (fieldsAt place (now (bytes .entry))) ⌝ }
 {

@@ -19,13 +19,13 @@ use crate::row::Rows;
 use lines::field::Field;
 use std::alloc::Global;
 
-pub const EVENT_LIMIT: usize = 64;
+pub(crate) const EVENT_LIMIT: usize = 64;
 
-pub const PROCESS_LIMIT: usize = 16;
+pub(crate) const PROCESS_LIMIT: usize = 16;
 
 // The names of events, processes and cells, and a row for each event.
 #[derive(Drop)]
-pub struct Entries {
+pub(crate) struct Entries {
     events: Names,
     processes: Names,
     cells: Names,
@@ -33,7 +33,7 @@ pub struct Entries {
 }
 
 impl Entries {
-    pub fn new(heap: Global) -> Entries
+    pub(crate) fn new(heap: Global) -> Entries
         ensures { λ r. ⌜ entered r ≡ noEntries ⌝ }
     {
         let events = Names::new(heap);
@@ -152,7 +152,7 @@ impl Entries {
         )
     }
 
-    pub fn add_record(&mut self, text: &[u8], fields: [Field; 4]) -> Result<(), NamesFault>
+    pub(crate) fn add_record(&mut self, text: &[u8], fields: [Field; 4]) -> Result<(), NamesFault>
         ensures { λ r. ⌜ Told (leaving r (entered (now (self .exit)))) (addRecord (now (text .entry)) fields (entered (now (self .entry)))) ⌝ }
     {
         let [event, process, reads, writes] = fields;
@@ -161,43 +161,43 @@ impl Entries {
         self.add_cells(text, number, Access::Write, writes)
     }
 
-    pub fn event_count(&self) -> usize
+    pub(crate) fn event_count(&self) -> usize
         ensures { λ r. ⌜ r ≡ length (entered (now (self .entry)) .events) ⌝ }
     {
         self.events.len()
     }
 
-    pub fn process_count(&self) -> usize
+    pub(crate) fn process_count(&self) -> usize
         ensures { λ r. ⌜ r ≡ length (entered (now (self .entry)) .processes) ⌝ }
     {
         self.processes.len()
     }
 
-    pub fn cell_count(&self) -> usize
+    pub(crate) fn cell_count(&self) -> usize
         ensures { λ r. ⌜ r ≡ length (entered (now (self .entry)) .cells) ⌝ }
     {
         self.cells.len()
     }
 
-    pub fn event_name<'a>(&self, text: &'a [u8], event: usize) -> Option<&'a [u8]>
+    pub(crate) fn event_name<'a>(&self, text: &'a [u8], event: usize) -> Option<&'a [u8]>
         ensures { λ r. ⌜ mapped now r ≡ nameAt (now (text .entry)) (entered (now (self .entry)) .events) event ⌝ }
     {
         self.events.get(text, event)
     }
 
-    pub fn process_name<'a>(&self, text: &'a [u8], process: usize) -> Option<&'a [u8]>
+    pub(crate) fn process_name<'a>(&self, text: &'a [u8], process: usize) -> Option<&'a [u8]>
         ensures { λ r. ⌜ mapped now r ≡ nameAt (now (text .entry)) (entered (now (self .entry)) .processes) process ⌝ }
     {
         self.processes.get(text, process)
     }
 
-    pub fn cell_name<'a>(&self, text: &'a [u8], cell: usize) -> Option<&'a [u8]>
+    pub(crate) fn cell_name<'a>(&self, text: &'a [u8], cell: usize) -> Option<&'a [u8]>
         ensures { λ r. ⌜ mapped now r ≡ nameAt (now (text .entry)) (entered (now (self .entry)) .cells) cell ⌝ }
     {
         self.cells.get(text, cell)
     }
 
-    pub fn row(&self, event: usize) -> Option<EventRow>
+    pub(crate) fn row(&self, event: usize) -> Option<EventRow>
         ensures { λ r. ⌜ r ≡ rowOf (entered (now (self .entry)) .rows) event ⌝ }
     {
         self.rows.get(event)

@@ -5,7 +5,7 @@ use crate::fault::NamesFault;
 use lines::field::Field;
 
 // Refuses a header field that is not `name`.
-pub fn check_header(text: &[u8], field: Field, name: &[u8]) -> Result<(), NamesFault>
+pub(crate) fn check_header(text: &[u8], field: Field, name: &[u8]) -> Result<(), NamesFault>
     ensures { λ r. ⌜ r ≡ headed (now (text .entry)) field (now (name .entry)) ⌝ }
 {
     if field.holds(text, name) {

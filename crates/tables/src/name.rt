@@ -41,7 +41,7 @@ pub fn is_name(bytes: &[u8]) -> bool
 }
 
 // Refuses a field that is no name; the fault stands at `place`.
-pub fn check_name(text: &[u8], field: Field, place: usize) -> Result<(), NamesFault>
+pub(crate) fn check_name(text: &[u8], field: Field, place: usize) -> Result<(), NamesFault>
     ensures { λ r. ⌜ r ≡ named (now (text .entry)) field place ⌝ }
 {
     if is_name(field.bytes(text)) {

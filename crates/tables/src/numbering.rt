@@ -13,7 +13,7 @@ use std::alloc::Global;
 
 // Each name by the field in which it first appeared.
 #[derive(Drop)]
-pub struct Names {
+pub(crate) struct Names {
     fields: Vec<Field>,
 }
 
@@ -30,7 +30,7 @@ fn find_in(fields: &[Field], text: &[u8], name: &[u8]) -> Option<usize>
 }
 
 impl Names {
-    pub fn new(heap: Global) -> Names
+    pub(crate) fn new(heap: Global) -> Names
         ensures { λ r. ⌜ vec-items (r .fields) ≡ [] ⌝ }
     {
         Names {
@@ -38,21 +38,21 @@ impl Names {
         }
     }
 
-    pub fn len(&self) -> usize
+    pub(crate) fn len(&self) -> usize
         ensures { λ r. ⌜ r ≡ length (vec-items (now (self .entry) .fields)) ⌝ }
     {
         self.fields.len()
     }
 
     // The number of a name, if it has one.
-    pub fn find(&self, text: &[u8], name: &[u8]) -> Option<usize>
+    pub(crate) fn find(&self, text: &[u8], name: &[u8]) -> Option<usize>
         ensures { λ r. ⌜ r ≡ numberOf (now (text .entry)) (vec-items (now (self .entry) .fields)) (now (name .entry)) ⌝ }
     {
         find_in(self.fields.as_slice(), text, name)
     }
 
     // The name with a number, as a part of the text.
-    pub fn get<'a>(&self, text: &'a [u8], number: usize) -> Option<&'a [u8]>
+    pub(crate) fn get<'a>(&self, text: &'a [u8], number: usize) -> Option<&'a [u8]>
         ensures { λ r. ⌜ mapped now r ≡ nameAt (now (text .entry)) (vec-items (now (self .entry) .fields)) number ⌝ }
     {
         if number >= self.fields.len() {
@@ -63,7 +63,7 @@ impl Names {
     }
 
     // The number of the name in a field; a new name takes the next number, if there are fewer than `limit`.
-    pub fn number(
+    pub(crate) fn number(
         &mut self,
         text: &[u8],
         field: Field,

@@ -18,18 +18,18 @@ ghost use Rattle.tables.specs.Rowing.{withCell, emptyRow, lists, rowOf, rowsWi
 use std::alloc::Global;
 use std::alloc::Refused;
 
-pub const CELL_LIMIT: usize = 64;
+pub(crate) const CELL_LIMIT: usize = 64;
 
 // What an event does to a cell.
 #[derive(Clone, Copy, PartialEq, Eq, Debug)]
-pub enum Access {
+pub(crate) enum Access {
     Read,
     Write,
 }
 
 // A set of cells, by number.
 #[derive(Clone, Copy)]
-pub struct CellSet {
+pub(crate) struct CellSet {
     listed: [bool; 64],
 }
 
@@ -51,14 +51,14 @@ impl CellSet {
 }
 
 #[derive(Clone, Copy)]
-pub struct EventRow {
+pub(crate) struct EventRow {
     process: usize,
     reads: CellSet,
     writes: CellSet,
 }
 
 impl EventRow {
-    pub fn new(process: usize) -> EventRow
+    pub(crate) fn new(process: usize) -> EventRow
         ensures { λ r. ⌜ r ≡ emptyRow process ⌝ }
     {
         let none = CellSet {
@@ -71,13 +71,13 @@ impl EventRow {
         }
     }
 
-    pub fn process(&self) -> usize
+    pub(crate) fn process(&self) -> usize
         ensures { λ r. ⌜ r ≡ now (self .entry) .process ⌝ }
     {
         self.process
     }
 
-    pub fn add_cell(&mut self, access: Access, cell: usize)
+    pub(crate) fn add_cell(&mut self, access: Access, cell: usize)
         ensures { λ _. ⌜ now (self .exit) ≡ withCell access cell (now (self .entry)) ⌝ }
     {
         match access {
@@ -86,7 +86,7 @@ impl EventRow {
         }
     }
 
-    pub fn lists(&self, access: Access, cell: usize) -> bool
+    pub(crate) fn lists(&self, access: Access, cell: usize) -> bool
         ensures { λ r. ⌜ r ≡ lists access cell (now (self .entry)) ⌝ }
     {
         match access {
@@ -98,12 +98,12 @@ impl EventRow {
 
 // The rows of the events, by number.
 #[derive(Drop)]
-pub struct Rows {
+pub(crate) struct Rows {
     rows: Vec<EventRow>,
 }
 
 impl Rows {
-    pub fn new(heap: Global) -> Rows
+    pub(crate) fn new(heap: Global) -> Rows
         ensures { λ r. ⌜ vec-items (r .rows) ≡ [] ⌝ }
     {
         Rows {
@@ -111,20 +111,20 @@ impl Rows {
         }
     }
 
-    pub fn push(&mut self, row: EventRow) -> Result<(), Refused<EventRow>>
+    pub(crate) fn push(&mut self, row: EventRow) -> Result<(), Refused<EventRow>>
         ensures { λ r. ⌜ vec-items (now (self .exit) .rows) ≡ cond (isOk r) (vec-items (now (self .entry) .rows) ++ row ∷ []) (vec-items (now (self .entry) .rows)) ⌝ }
     {
         self.rows.push(row)
     }
 
     // Lends the row of an event.
-    pub fn row_mut(&mut self, event: usize) -> Option<&mut EventRow>
+    pub(crate) fn row_mut(&mut self, event: usize) -> Option<&mut EventRow>
         ensures { λ r. sem 𝓤 H A (follows-if rowsRow eventRow (name (self .entry)) (nameOf r) (λ w. record { rows = with-item (now (self .entry) .rows) event w }) (now (self .entry))) ∗ ⌜ (isSome r ≡ ltb event (vec-len (now (self .entry) .rows))) × found r (λ x. now x ≡ getD (vec-items (now (self .entry) .rows)) event (now x)) ⌝ }
     {
         self.rows.get_mut(event)
     }
 
-    pub fn get(&self, event: usize) -> Option<EventRow>
+    pub(crate) fn get(&self, event: usize) -> Option<EventRow>
         ensures { λ r. ⌜ r ≡ rowOf (vec-items (now (self .entry) .rows)) event ⌝ }
     {
         if event >= self.rows.len() {
@@ -134,7 +134,7 @@ impl Rows {
     }
 
     // Gives the event's row one more cell; a number that is no event's changes nothing.
-    pub fn add_cell(&mut self, event: usize, access: Access, cell: usize)
+    pub(crate) fn add_cell(&mut self, event: usize, access: Access, cell: usize)
         ensures { λ _. ⌜ vec-items (now (self .exit) .rows) ≡ rowsWith access cell event (vec-items (now (self .entry) .rows)) ⌝ }
     {
         if let Some(row) = self.row_mut(event) {

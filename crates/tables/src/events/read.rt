@@ -1,5 +1,6 @@
 // Reads an event table.
 ghost use mathlib.Core.Path.{_≡_};
+ghost use Rattle.std.specs.Vec.{made};
 ghost use Rattle.tables.specs.Entering.{entered, noEntries, addRecord};
 ghost use Rattle.tables.specs.Folding.{recordsFrom};
 ghost use Rattle.tables.specs.Tabling.{eventHeader, eventTable};
@@ -43,7 +44,8 @@ fn read_records(
 
 impl<'a> EventTable<'a> {
     pub fn read(heap: Global, text: &'a [u8]) -> Result<EventTable<'a>, NamesFault>
-        ensures { λ r. ⌜ Told (mapped (λ t. entered (t .entries)) r) (eventTable (now (text .entry))) ⌝ }
+        ensures told { λ r. ⌜ Told (mapped (λ t. entered (t .entries)) r) (eventTable (now (text .entry))) ⌝ }
+        ensures kept { λ r. ⌜ made r (λ t. now (t .text) ≡ now (text .entry)) ⌝ }
     {
         let records = Records::<4>::open(text, EVENTS_LIMIT)?;
         check_event_header(text, records.header())?;

@@ -1,0 +1,80 @@
+// The lines that the program prints of an event table.
+use lines::fault::Refusal;
+use std::alloc::AllocError;
+use std::alloc::Global;
+use tables::events::EventTable;
+
+fn push_number(out: &mut Vec<u8>, heap: Global, n: usize) -> Result<(), AllocError> {
+    let digits = n.to_string(heap)?;
+    out.extend_from_slice(digits.as_bytes())
+}
+
+fn push_field(out: &mut Vec<u8>, name: Option<&[u8]>) -> Result<(), AllocError> {
+    out.push(b',')?;
+    match name {
+        Some(bytes) => out.extend_from_slice(bytes),
+        None => Ok(()),
+    }
+}
+
+fn process_name<'a>(table: &EventTable<'a>, event: usize) -> Option<&'a [u8]> {
+    table.process_name(table.process(event)?)
+}
+
+fn push_cell(out: &mut Vec<u8>, name: Option<&[u8]>) -> Result<(), AllocError> {
+    out.push(b' ')?;
+    out.extend_from_slice(name.unwrap_or(b""))
+}
+
+fn push_reads(out: &mut Vec<u8>, table: &EventTable<'_>, event: usize) -> Result<(), AllocError> {
+    out.extend_from_slice(b",reads")?;
+    for cell in 0..table.cell_count() {
+        if table.reads(event, cell) {
+            push_cell(out, table.cell_name(cell))?;
+        }
+    }
+    Ok(())
+}
+
+fn push_writes(out: &mut Vec<u8>, table: &EventTable<'_>, event: usize) -> Result<(), AllocError> {
+    out.extend_from_slice(b",writes")?;
+    for cell in 0..table.cell_count() {
+        if table.writes(event, cell) {
+            push_cell(out, table.cell_name(cell))?;
+        }
+    }
+    Ok(())
+}
+
+// A line for each event: number, name, process, and the cells that it reads and writes.
+pub fn push_table(
+    out: &mut Vec<u8>,
+    heap: Global,
+    table: &EventTable<'_>,
+) -> Result<(), AllocError> {
+    for event in 0..table.event_count() {
+        push_number(out, heap, event)?;
+        push_field(out, table.name(event))?;
+        push_field(out, process_name(table, event))?;
+        push_reads(out, table, event)?;
+        push_writes(out, table, event)?;
+        out.extend_from_slice(b"\r\n")?;
+    }
+    Ok(())
+}
+
+// A report's header, and the record of a fault.
+pub fn push_fault(
+    out: &mut Vec<u8>,
+    heap: Global,
+    kind: &[u8],
+    refusal: Refusal,
+) -> Result<(), AllocError> {
+    out.extend_from_slice(b"kind,place,event\r\n")?;
+    out.extend_from_slice(kind)?;
+    out.push(b',')?;
+    push_number(out, heap, refusal.place)?;
+    out.push(b',')?;
+    push_number(out, heap, usize::from(refusal.number))?;
+    out.extend_from_slice(b"\r\n")
+}
