@@ -1,3 +1,11 @@
 pub mod Steps
 pub mod Cells
 pub mod Turns
+pub mod Numbers
+pub mod Firsts
+pub mod Marks
+pub mod Growing
+pub mod Adding
+pub mod Settling
+pub mod Recording
+pub mod Tabulated

@@ -1,12 +1,13 @@
 -- The records of a table, added one after another until none is left.
 use mathlib.Core.Path.{_≡_, refl, ap, sym, _∙_}
-use mathlib.Core.List.{List}
+use mathlib.Core.List.{List, [], _∷_}
 use Prim.Native.Nat.{ℕ, zero, suc, _-_, _≤_, _<_}
 use native.Mathlib.Omega.{arith}
 use lib.ListN.{length}
 use Rattle.lines.specs.declared.fault.LinesFault.{LinesFault}
 use Rattle.lines.specs.declared.field.Field.{Field}
 use Rattle.lines.specs.Reading.{nextRecord, fieldsIn, placeAfter}
+use Rattle.lines.specs.Texts.{ReadsOn}
 use Rattle.lines.proofs.Forward.{next-forward}
 use Rattle.std.proofs.shelf.Tests.{cond-true, le-leb}
 use Rattle.std.specs.declared.option.Option.{Option}
@@ -22,6 +23,20 @@ pub andThen-same : {X Y : Type 0} (o : Result X NamesFault) (f g : X → Result 
     → andThen o f ≡ andThen o g
 andThen-same (Ok x) f g h = h x
 andThen-same (Err e) f g h = refl
+
+pub ok-same : {X : Type 0} (x y : X) → _≡_ {A = Result X NamesFault} (Ok x) (Ok y) → x ≡ y
+ok-same x y e = cc
+
+-- what came of both
+pub andThen-made : {X Y : Type 0} (o : Result X NamesFault) (k : X → Result Y NamesFault) (y : Y) → andThen o k ≡ Ok y
+    → (x : X) × (o ≡ Ok x) × (k x ≡ Ok y)
+andThen-made (Ok x) k y e = (x, refl, e)
+andThen-made (Err f) k y e = let z : _≡_ {A = ℕ} 0 1 = cc in absurd (omega arith)
+
+-- records that are in hand, added one after another
+abbrev pub addAll : {S : Type 0} → (List Field → S → Result S NamesFault) → List (List Field) → S → Result S NamesFault
+addAll add [] s = Ok s
+addAll add (r ∷ rs) s = andThen (add r s) (addAll add rs)
 
 -- a reading by its fields alone
 read-some : (place : ℕ) (o : Result (Option (List Field × ℕ)) LinesFault) (fields : List Field) → Ok (Some fields) ≡ fieldsIn o
@@ -87,3 +102,21 @@ module _ {S : Type 0} (width : ℕ) (add : List Field → S → Result S NamesFa
   records-fault place s f e =
       records-next place s
       ∙ ap (addedBy width add text s (recordsFrom width add text)) (read-fault (nextRecord width text place) f e)
+
+  read-on : (n place : ℕ) (s u : S) → length text - place ≤ n → (o : Result (Option (List Field × ℕ)) LinesFault)
+      → nextRecord width text place ≡ o → addedBy width add text s (recordsFrom width add text) o ≡ Ok u
+      → (rs : List (List Field)) × ReadsOn width text place rs × (addAll add rs s ≡ Ok u)
+  read-on n place s u h (Ok None) e f = ([], e, f)
+  read-on zero place s u h (Ok (Some read)) e f = absurd (omega (arith, next-forward width text place (read .0) (read .1) e))
+  read-on (suc n) place s u h (Ok (Some read)) e f =
+      let p = andThen-made (add (read .0) s) (recordsFrom width add text (read .1)) u f in
+      let k : length text - read .1 ≤ n = omega (arith, next-forward width text place (read .0) (read .1) e) in
+      let more = read-on n (read .1) (p .0) u k (nextRecord width text (read .1)) refl (sym (records-next (read .1) (p .0)) ∙ p .2) in
+      (read .0 ∷ more .0, (read .1, e, more .1), ap (λ (o : Result S NamesFault). andThen o (addAll add (more .0))) (p .1) ∙ more .2)
+  read-on n place s u h (Err x) e f = let z : _≡_ {A = ℕ} 0 1 = cc in absurd (omega arith)
+
+  -- what the records from a place on add is what a list of records adds, which the text gives from there
+  pub records-read : (place : ℕ) (s u : S) → recordsFrom width add text place s ≡ Ok u
+      → (rs : List (List Field)) × ReadsOn width text place rs × (addAll add rs s ≡ Ok u)
+  records-read place s u e =
+      read-on (length text - place) place s u (omega arith) (nextRecord width text place) refl (sym (records-next place s) ∙ e)

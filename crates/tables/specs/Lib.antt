@@ -7,3 +7,4 @@ pub mod Rowing
 pub mod Entering
 pub mod Folding
 pub mod Tabling
+pub mod Tabulating

@@ -4,6 +4,7 @@ ghost use Rattle.std.specs.Vec.{made};
 ghost use Rattle.tables.specs.Entering.{entered, noEntries, addRecord};
 ghost use Rattle.tables.specs.Folding.{recordsFrom};
 ghost use Rattle.tables.specs.Tabling.{eventHeader, eventTable};
+ghost use Rattle.tables.specs.Tabulating.{Tabulated};
 ghost use Rattle.tables.specs.Telling.{Told, mapped};
 use crate::entries::Entries;
 use crate::events::EventTable;
@@ -45,6 +46,7 @@ fn read_records(
 impl<'a> EventTable<'a> {
     pub fn read(heap: Global, text: &'a [u8]) -> Result<EventTable<'a>, NamesFault>
         ensures told { λ r. ⌜ Told (mapped (λ t. entered (t .entries)) r) (eventTable (now (text .entry))) ⌝ }
+        ensures tabulated { λ r. ⌜ made r (λ t. Tabulated (now (text .entry)) (entered (t .entries))) ⌝ }
         ensures kept { λ r. ⌜ made r (λ t. now (t .text) ≡ now (text .entry)) ⌝ }
     {
         let records = Records::<4>::open(text, EVENTS_LIMIT)?;
