@@ -1,7 +1,14 @@
-// The lines that the program prints of an event table.
+// The lines that the program prints.
+use independence::apart::Apart;
+use independence::both::Both;
+use independence::footprints::Footprints;
+use independence::pairs::independent_pairs;
+use independence::relation::Independence;
 use lines::fault::Refusal;
 use std::alloc::AllocError;
 use std::alloc::Global;
+use tables::apart::PAIR_LIMIT;
+use tables::apart::read_apart;
 use tables::events::EventTable;
 
 fn push_number(out: &mut Vec<u8>, heap: Global, n: usize) -> Result<(), AllocError> {
@@ -47,11 +54,7 @@ fn push_writes(out: &mut Vec<u8>, table: &EventTable<'_>, event: usize) -> Resul
 }
 
 // A line for each event: number, name, process, and the cells that it reads and writes.
-pub fn push_table(
-    out: &mut Vec<u8>,
-    heap: Global,
-    table: &EventTable<'_>,
-) -> Result<(), AllocError> {
+fn push_table(out: &mut Vec<u8>, heap: Global, table: &EventTable<'_>) -> Result<(), AllocError> {
     for event in 0..table.event_count() {
         push_number(out, heap, event)?;
         push_field(out, table.name(event))?;
@@ -63,13 +66,32 @@ pub fn push_table(
     Ok(())
 }
 
-// A report's header, and the record of a fault.
-pub fn push_fault(
+// A line for each two events that may change places.
+fn push_pairs<I: Independence>(
+    out: &mut Vec<u8>,
+    heap: Global,
+    table: &EventTable<'_>,
+    rule: &I,
+) -> Result<(), AllocError> {
+    for (a, b) in independent_pairs(heap, rule)? {
+        out.extend_from_slice(b"independent")?;
+        push_field(out, table.name(a))?;
+        push_field(out, table.name(b))?;
+        out.extend_from_slice(b"\r\n")?;
+    }
+    Ok(())
+}
+
+// A report's header, and the record of a fault; want of memory is no record.
+fn push_fault(
     out: &mut Vec<u8>,
     heap: Global,
     kind: &[u8],
-    refusal: Refusal,
+    refusal: Option<Refusal>,
 ) -> Result<(), AllocError> {
+    let Some(refusal) = refusal else {
+        return Err(AllocError);
+    };
     out.extend_from_slice(b"kind,place,event\r\n")?;
     out.extend_from_slice(kind)?;
     out.push(b',')?;
@@ -77,4 +99,37 @@ pub fn push_fault(
     out.push(b',')?;
     push_number(out, heap, usize::from(refusal.number))?;
     out.extend_from_slice(b"\r\n")
+}
+
+fn push_rules(
+    out: &mut Vec<u8>,
+    heap: Global,
+    table: &EventTable<'_>,
+    apart: &[u8],
+) -> Result<(), AllocError> {
+    let mut store = [(0, 0); PAIR_LIMIT];
+    match read_apart(table, apart, &mut store) {
+        Ok(count) => {
+            push_table(out, heap, table)?;
+            let rule = Both {
+                first: Footprints::new(table),
+                second: Apart::new(table, &store[0..count]),
+            };
+            push_pairs(out, heap, table, &rule)
+        }
+        Err(fault) => push_fault(out, heap, b"fault-apart", fault.refusal()),
+    }
+}
+
+// What is printed for the texts of an event table and an apart list.
+pub(crate) fn push_texts(
+    out: &mut Vec<u8>,
+    heap: Global,
+    events: &[u8],
+    apart: &[u8],
+) -> Result<(), AllocError> {
+    match EventTable::read(heap, events) {
+        Ok(table) => push_rules(out, heap, &table, apart),
+        Err(fault) => push_fault(out, heap, b"fault-events", fault.refusal()),
+    }
 }

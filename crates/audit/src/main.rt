@@ -1,10 +1,10 @@
-// Reads the event table of the folder that it is run in, and prints it, or why it is none.
-use std::alloc::AllocError;
+// Reads the event table and the apart list of the folder that it is run in, and prints the events and which of them
+// are independent, or why one of the texts is refused.
 use std::fs;
 use std::io;
 use std::io::Read;
 use std::io::Write;
-use tables::events::EventTable;
+use tables::apart::APART_LIMIT;
 use tables::events::read::EVENTS_LIMIT;
 
 mod listing;
@@ -17,31 +17,20 @@ fn read_text(rt: &LibcRuntime, path: &str, limit: usize) -> io::Result<Vec<u8>> 
     Ok(text)
 }
 
-fn shown(rt: &LibcRuntime, events: &[u8]) -> Result<Vec<u8>, AllocError> {
-    let heap = rt.alloc();
-    let mut out = Vec::new(heap);
-    match EventTable::read(heap, events) {
-        Ok(table) => listing::push_table(&mut out, heap, &table)?,
-        Err(fault) => match fault.refusal() {
-            Some(refusal) => listing::push_fault(&mut out, heap, b"fault-events", refusal)?,
-            None => return Err(AllocError),
-        },
-    }
-    Ok(out)
-}
-
-fn run(rt: &LibcRuntime) -> io::Result<()> {
-    let events = read_text(rt, "events.csv", EVENTS_LIMIT)?;
-    let out = shown(rt, events.as_slice())?;
-    rt.stdout().write_all(out.as_slice())
-}
-
-fn main(rt: LibcRuntime) -> io::Result<()> {
-    match run(&rt) {
-        Ok(()) => Ok(()),
+fn read_named(rt: &LibcRuntime, path: &str, limit: usize) -> io::Result<Vec<u8>> {
+    match read_text(rt, path, limit) {
+        Ok(text) => Ok(text),
         Err(e) => {
-            eprintln!(rt, "audit: events.csv: {e}")?;
+            eprintln!(rt, "audit: {path}: {e}")?;
             Err(e)
         }
     }
+}
+
+fn main(rt: LibcRuntime) -> io::Result<()> {
+    let events = read_named(&rt, "events.csv", EVENTS_LIMIT)?;
+    let apart = read_named(&rt, "apart.csv", APART_LIMIT)?;
+    let mut out = Vec::new(rt.alloc());
+    listing::push_texts(&mut out, rt.alloc(), events.as_slice(), apart.as_slice())?;
+    rt.stdout().write_all(out.as_slice())
 }

@@ -7,6 +7,7 @@ ghost use Rattle.lines.specs.Refusals.{linesRefusal};
 pub enum Layer {
     Lines,
     Names,
+    Audit,
 }
 
 // What a user is told of a refusal. A place counts the bytes before it.

@@ -95,6 +95,27 @@ impl<'a, const WIDTH: usize> Records<'a, WIDTH> {
         self.header
     }
 
+    // The whole text.
+    pub fn text(&self) -> &'a [u8]
+        ensures { λ r. ⌜ now r ≡ now (now (self .entry) .text) ⌝ }
+    {
+        self.text
+    }
+
+    pub fn position(&self) -> Position
+        ensures { λ r. ⌜ r ≡ now (self .entry) .position ⌝ }
+    {
+        self.position
+    }
+
+    // Goes on from a position, as one that the reader had before.
+    pub fn seek(&mut self, position: Position)
+        ensures moved { λ _. ⌜ now (self .exit) .position ≡ position ⌝ }
+        ensures kept { λ _. ⌜ (now (self .exit) .text ≡ now (self .entry) .text) × (now (self .exit) .header ≡ now (self .entry) .header) ⌝ }
+    {
+        self.position = position;
+    }
+
     // The next record, or none at the end of the text. A refusal leaves the reader where it stood.
     pub fn next_record(&mut self) -> Result<Option<[Field; WIDTH]>, LinesFault>
         ensures read { λ r. ⌜ r ≡ fieldsIn (nextRecord WIDTH (now (now (self .entry) .text)) (now (self .entry) .position .place)) ⌝ }

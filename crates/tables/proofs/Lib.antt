@@ -9,3 +9,10 @@ pub mod Adding
 pub mod Settling
 pub mod Recording
 pub mod Tabulated
+pub mod Known
+pub mod Ranking
+pub mod Rooming
+pub mod Parting
+pub mod Placing
+pub mod Logs
+pub mod Listed

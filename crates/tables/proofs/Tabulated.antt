@@ -119,11 +119,11 @@ module _ (text : List ℕ) (rs : List (List Field)) (t : Table) (e : addAll (add
         within = added .0 .whole .within;
       }
 
-lifted-ok : {X : Type 0} (o : Result X LinesFault) (x : X) → lifted o ≡ Ok x → o ≡ Ok x
+pub lifted-ok : {X : Type 0} (o : Result X LinesFault) (x : X) → lifted o ≡ Ok x → o ≡ Ok x
 lifted-ok (Ok y) x e = cc
 lifted-ok (Err f) x e = cc
 
-headed-is : (text : List ℕ) (f : Field) (name : List ℕ) (u : Unit {0}) → headed text f name ≡ Ok u → bytesOf text f ≡ name
+pub headed-is : (text : List ℕ) (f : Field) (name : List ℕ) (u : Unit {0}) → headed text f name ≡ Ok u → bytesOf text f ≡ name
 headed-is text f name u =
     cond-both (sameBytes (bytesOf text f) name) _ _ (λ (o : Result (Unit {0}) NamesFault). o ≡ Ok u → bytesOf text f ≡ name)
     (λ t _. same-true (bytesOf text f) name t) (λ _ e. let z : _≡_ {A = ℕ} 0 1 = cc in absurd (omega arith))

@@ -39,7 +39,7 @@ addAll add [] s = Ok s
 addAll add (r ∷ rs) s = andThen (add r s) (addAll add rs)
 
 -- a reading by its fields alone
-read-some : (place : ℕ) (o : Result (Option (List Field × ℕ)) LinesFault) (fields : List Field) → Ok (Some fields) ≡ fieldsIn o
+pub read-some : (place : ℕ) (o : Result (Option (List Field × ℕ)) LinesFault) (fields : List Field) → Ok (Some fields) ≡ fieldsIn o
     → o ≡ Ok (Some (fields, placeAfter place o))
 read-some place (Ok None) fields e = cc
 read-some place (Ok (Some read)) fields e =

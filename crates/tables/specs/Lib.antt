@@ -6,5 +6,9 @@ pub mod Telling
 pub mod Rowing
 pub mod Entering
 pub mod Folding
+pub mod Knowing
+pub mod Pairing
 pub mod Tabling
 pub mod Tabulating
+pub mod Listing
+pub mod Logging

@@ -4,7 +4,7 @@ use Rattle.lines.specs.declared.fault.LinesFault.{LinesFault}
 use Rattle.std.specs.declared.result.Result.{Result}
 use Rattle.std.specs.declared.result.Result.the-variants.{Ok, Err}
 use Rattle.tables.specs.declared.fault.NamesFault.{NamesFault}
-use Rattle.tables.specs.declared.fault.NamesFault.the-variants.{Lines, Header, NoName, TooMany, OtherProcess, Memory}
+use Rattle.tables.specs.declared.fault.NamesFault.the-variants.{Lines, Header, NoName, TooMany, Unknown, OtherProcess, WithItself, Again, Memory}
 
 -- what comes after a result that is no fault
 abbrev pub andThen : {X Y : Type 0} → Result X NamesFault → (X → Result Y NamesFault) → Result Y NamesFault
@@ -33,7 +33,10 @@ Told (Err (Lines f)) due = due ≡ Err (Lines f)
 Told (Err (Header p)) due = due ≡ Err (Header p)
 Told (Err (NoName p)) due = due ≡ Err (NoName p)
 Told (Err (TooMany p)) due = due ≡ Err (TooMany p)
+Told (Err (Unknown p)) due = due ≡ Err (Unknown p)
 Told (Err (OtherProcess p)) due = due ≡ Err (OtherProcess p)
+Told (Err (WithItself p)) due = due ≡ Err (WithItself p)
+Told (Err (Again p)) due = due ≡ Err (Again p)
 Told (Err Memory) due = Unit {0}
 
 -- the value in an answer, by what it means

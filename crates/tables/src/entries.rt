@@ -197,6 +197,18 @@ impl Entries {
         self.cells.get(text, cell)
     }
 
+    pub(crate) fn find_event(&self, text: &[u8], name: &[u8]) -> Option<usize>
+        ensures { λ r. ⌜ r ≡ numberOf (now (text .entry)) (entered (now (self .entry)) .events) (now (name .entry)) ⌝ }
+    {
+        self.events.find(text, name)
+    }
+
+    pub(crate) fn find_process(&self, text: &[u8], name: &[u8]) -> Option<usize>
+        ensures { λ r. ⌜ r ≡ numberOf (now (text .entry)) (entered (now (self .entry)) .processes) (now (name .entry)) ⌝ }
+    {
+        self.processes.find(text, name)
+    }
+
     pub(crate) fn row(&self, event: usize) -> Option<EventRow>
         ensures { λ r. ⌜ r ≡ rowOf (entered (now (self .entry)) .rows) event ⌝ }
     {

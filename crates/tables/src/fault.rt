@@ -1,7 +1,8 @@
 // Why a text of records is no table.
 ghost use mathlib.Core.Path.{_≡_};
-ghost use Rattle.tables.specs.Refusals.{refused, namesRefusal};
+ghost use Rattle.tables.specs.Refusals.{refused, namesRefusal, apartRefusal};
 ghost use Rattle.tables.specs.declared.fault.NamesFault.the-variants.{Lines as OfLines, Memory as OutOfMemory};
+ghost use Rattle.tables.specs.declared.fault.ApartFault.the-variants.{Names as OfNames};
 use lines::fault::Layer;
 use lines::fault::LinesFault;
 use lines::fault::Refusal;
@@ -15,7 +16,10 @@ pub enum NamesFault {
     Header(usize),
     NoName(usize),
     TooMany(usize),
+    Unknown(usize),
     OtherProcess(usize),
+    WithItself(usize),
+    Again(usize),
     Memory,
 }
 
@@ -39,7 +43,10 @@ impl NamesFault {
             NamesFault::Header(place) => at(5, place),
             NamesFault::NoName(place) => at(6, place),
             NamesFault::TooMany(place) => at(7, place),
+            NamesFault::Unknown(place) => at(8, place),
             NamesFault::OtherProcess(place) => at(9, place),
+            NamesFault::WithItself(place) => at(10, place),
+            NamesFault::Again(place) => at(11, place),
             NamesFault::Memory => None,
         }
     }
@@ -66,5 +73,43 @@ pub impl<T: Drop> From<Refused<T>> for NamesFault as NamesFromRefused {
 
     fn from(_e: Refused<T>) -> NamesFault {
         NamesFault::Memory
+    }
+}
+
+// Why an apart list is not read: a fault of its text, or a store that cannot hold every pair there may be.
+#[derive(Clone, Copy)]
+pub enum ApartFault {
+    Names(NamesFault),
+    ShortStore,
+}
+
+impl ApartFault {
+    pub fn refusal(self) -> Option<Refusal>
+        ensures { λ r. ⌜ r ≡ apartRefusal self ⌝ }
+    {
+        match self {
+            ApartFault::Names(fault) => fault.refusal(),
+            ApartFault::ShortStore => Some(Refusal {
+                number: 24,
+                place: 0,
+                layer: Layer::Audit,
+            }),
+        }
+    }
+}
+
+pub impl From<NamesFault> for ApartFault as ApartFromNames {
+    ghost converts = { λ e r. r ≡ OfNames e };
+
+    fn from(e: NamesFault) -> ApartFault {
+        ApartFault::Names(e)
+    }
+}
+
+pub impl From<LinesFault> for ApartFault as ApartFromLines {
+    ghost converts = { λ e r. r ≡ OfNames (OfLines e) };
+
+    fn from(e: LinesFault) -> ApartFault {
+        ApartFault::Names(NamesFault::Lines(e))
     }
 }

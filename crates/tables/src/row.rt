@@ -22,7 +22,7 @@ pub(crate) const CELL_LIMIT: usize = 64;
 
 // What an event does to a cell.
 #[derive(Clone, Copy, PartialEq, Eq, Debug)]
-pub(crate) enum Access {
+pub enum Access {
     Read,
     Write,
 }

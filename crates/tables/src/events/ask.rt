@@ -4,7 +4,7 @@ ghost use lib.ListN.{length};
 ghost use Rattle.std.specs.Options.{mapped};
 ghost use Rattle.tables.specs.declared.row.Access.the-variants.{Read, Write};
 ghost use Rattle.tables.specs.Entering.{entered};
-ghost use Rattle.tables.specs.Numbering.{nameAt};
+ghost use Rattle.tables.specs.Numbering.{nameAt, numberOf};
 ghost use Rattle.tables.specs.Rowing.{rowOf, processOf, listsAt};
 use crate::events::EventTable;
 use crate::row::Access;
@@ -22,6 +22,13 @@ impl<'a> EventTable<'a> {
         ensures { λ r. ⌜ mapped now r ≡ nameAt (now (now (self .entry) .text)) (entered (now (self .entry) .entries) .events) event ⌝ }
     {
         self.entries.event_name(self.text, event)
+    }
+
+    // The number of the event with a name.
+    pub fn find_event(&self, name: &[u8]) -> Option<usize>
+        ensures { λ r. ⌜ r ≡ numberOf (now (now (self .entry) .text)) (entered (now (self .entry) .entries) .events) (now (name .entry)) ⌝ }
+    {
+        self.entries.find_event(self.text, name)
     }
 
     // The number of an event's process.
@@ -62,6 +69,12 @@ impl<'a> EventTable<'a> {
         ensures { λ r. ⌜ mapped now r ≡ nameAt (now (now (self .entry) .text)) (entered (now (self .entry) .entries) .processes) process ⌝ }
     {
         self.entries.process_name(self.text, process)
+    }
+
+    pub fn find_process(&self, name: &[u8]) -> Option<usize>
+        ensures { λ r. ⌜ r ≡ numberOf (now (now (self .entry) .text)) (entered (now (self .entry) .entries) .processes) (now (name .entry)) ⌝ }
+    {
+        self.entries.find_process(self.text, name)
     }
 
     pub fn cell_count(&self) -> usize

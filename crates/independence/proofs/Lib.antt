@@ -1,0 +1,4 @@
+pub mod Clashes
+pub mod Processes
+pub mod Enumerating
+pub mod Saying

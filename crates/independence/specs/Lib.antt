@@ -1,0 +1,3 @@
+pub mod Footprint
+pub mod Parting
+pub mod Pairing

@@ -1,0 +1,5 @@
+mod Adding
+mod Counting
+pub mod Membership
+mod Opening
+mod Placing

@@ -1,0 +1,3 @@
+pub mod Insertion
+pub mod Lists
+pub mod Numbers

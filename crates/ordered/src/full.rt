@@ -1,0 +1,3 @@
+// No room is left in the store.
+#[derive(Clone, Copy, PartialEq, Eq, Debug)]
+pub struct Full;
