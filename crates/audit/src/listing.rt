@@ -1,7 +1,10 @@
 // The lines that the program prints.
 use independence::apart::Apart;
+use independence::apart::ApartIndependence;
 use independence::both::Both;
+use independence::both::BothIndependence;
 use independence::footprints::Footprints;
+use independence::footprints::FootprintsIndependence;
 use independence::pairs::independent_pairs;
 use independence::relation::Independence;
 use lines::fault::Refusal;
@@ -101,22 +104,30 @@ fn push_fault(
     out.extend_from_slice(b"\r\n")
 }
 
-fn push_rules(
+// The events, and which of them are independent by their cells and by the pairs of processes that may run apart.
+fn push_rules<'x>(
     out: &mut Vec<u8>,
     heap: Global,
-    table: &EventTable<'_>,
+    table: &'x EventTable<'x>,
+    pairs: &'x [(usize, usize)],
+) -> Result<(), AllocError> {
+    push_table(out, heap, table)?;
+    let rule = Both {
+        first: Footprints::new(table),
+        second: Apart::new(table, pairs),
+    };
+    push_pairs(out, heap, table, &rule)
+}
+
+fn push_apart<'x>(
+    out: &mut Vec<u8>,
+    heap: Global,
+    table: &'x EventTable<'x>,
     apart: &[u8],
 ) -> Result<(), AllocError> {
     let mut store = [(0, 0); PAIR_LIMIT];
     match read_apart(table, apart, &mut store) {
-        Ok(count) => {
-            push_table(out, heap, table)?;
-            let rule = Both {
-                first: Footprints::new(table),
-                second: Apart::new(table, &store[0..count]),
-            };
-            push_pairs(out, heap, table, &rule)
-        }
+        Ok(count) => push_rules(out, heap, &*table, &store[0..count]),
         Err(fault) => push_fault(out, heap, b"fault-apart", fault.refusal()),
     }
 }
@@ -129,7 +140,7 @@ pub(crate) fn push_texts(
     apart: &[u8],
 ) -> Result<(), AllocError> {
     match EventTable::read(heap, events) {
-        Ok(table) => push_rules(out, heap, &table, apart),
+        Ok(table) => push_apart(out, heap, &table, apart),
         Err(fault) => push_fault(out, heap, b"fault-events", fault.refusal()),
     }
 }

@@ -6,5 +6,3 @@ pub mod footprints;
 pub mod never;
 pub mod pairs;
 pub mod relation;
-#[cfg(test)]
-mod tests;

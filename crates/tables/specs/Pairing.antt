@@ -1,8 +1,8 @@
 -- The pairs of processes that an apart list lists.
+use mathlib.Core.Path.{_≡_}
 use mathlib.Core.Bool.{cond}
 use mathlib.Core.List.{List, [], _++_}
 use Prim.Native.Nat.{ℕ, _+_, _<_}
-use mathlib.Core.Path.{_≡_}
 use lib.Chars.{codes}
 use lib.Dec.{eqb, ltb}
 use lib.ListN.{length, getD, drop}
@@ -69,7 +69,7 @@ abbrev pub raised : {X : Type 0} → Result X NamesFault → Result X ApartFault
 raised (Ok x) = Ok x
 raised (Err f) = Err (Names f)
 
--- the pairs of an apart list that is read into a store of so many places: it has to have 120, which is refused behind the length alone
+-- the pairs of an apart list that is read for a store of so many places; a store of fewer than 120 is refused next to the length
 abbrev pub apartList : ℕ → List ℕ → Table → List ℕ → Result (List Pair) ApartFault
 apartList room table t text =
     cond (ltb 8192 (length text)) (Err (Names (Lines TooLong)))

@@ -1,6 +1,6 @@
 // Reads an apart list: which processes may run apart.
 ghost use mathlib.Core.Path.{_≡_};
-ghost use Prim.Native.Nat.{_<_};
+ghost use Prim.Native.Nat.{_<_, _≤_};
 ghost use lib.ListN.{length, take};
 ghost use Rattle.std.specs.Vec.{made};
 ghost use Rattle.ordered.specs.Lists.{members};
@@ -122,6 +122,7 @@ pub fn read_apart(
 ) -> Result<usize, ApartFault>
     ensures answers { λ r. ⌜ r ≡ counted (apartList (length (now (store .entry))) (now (now (events .entry) .text)) (entered (now (events .entry) .entries)) (now (text .entry))) ⌝ }
     ensures puts { λ _. ⌜ now (store .exit) ≡ stored (apartList (length (now (store .entry))) (now (now (events .entry) .text)) (entered (now (events .entry) .entries)) (now (text .entry))) (now (store .entry)) ⌝ }
+    ensures within { λ r. ⌜ made r (λ n. n ≤ length (now (store .entry))) ⌝ }
     ensures lists { λ r. ⌜ made r (λ n. Apart (now (now (events .entry) .text)) (entered (now (events .entry) .entries)) (now (text .entry)) (take n (now (store .exit)))) ⌝ }
 {
     if text.len() > APART_LIMIT {

@@ -42,6 +42,7 @@ returns c =
     record {
       answers = ap Ok count ∙ sym (ap counted a);
       puts = put-front pairs store xs n is count ∙ sym (ap (λ o. stored o store) a);
+      within = omega (arith, ap length (c .members-members .ensures), c .in-Continue-read-pairs .ensures tt .roomy .room);
       lists =
           subst (Apart table t text) (sym (front-is pairs store xs n is count))
           (apart-list table t text (few-processes table t (c .args .events .now .exact)) pairs e);
