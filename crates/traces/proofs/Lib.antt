@@ -1,0 +1,12 @@
+pub mod Lists
+pub mod Exchanging
+pub mod NormalWords
+pub mod NormalForms
+pub mod DerivativeWords
+pub mod DerivativeForms
+pub mod Events
+pub mod Sets
+pub mod Ordering
+pub mod Swapping
+pub mod Reordering
+pub mod Worked

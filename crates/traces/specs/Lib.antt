@@ -1,0 +1,11 @@
+pub mod Members
+pub mod Words
+pub mod Expressions
+pub mod Exchanges
+pub mod Closure
+pub mod Normal
+pub mod Derivatives
+pub mod Order
+pub mod Theorems
+pub mod Swaps
+pub mod Examples
