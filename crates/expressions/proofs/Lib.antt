@@ -1,9 +1,0 @@
-pub mod Bounds
-pub mod Pushing
-pub mod Symbols
-pub mod Inserting
-pub mod Widening
-pub mod Searching
-pub mod Nexts
-pub mod Sorting
-pub mod Appending
