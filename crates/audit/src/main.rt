@@ -1,5 +1,7 @@
 // Reads the event table and the apart list of the folder that it is run in, and prints the events and which of them
 // are independent, or why one of the texts is refused.
+#![tactic(auto)]
+
 use std::io::{Read, Write};
 use std::{fs, io};
 use tables::apart::APART_LIMIT;

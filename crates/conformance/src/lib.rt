@@ -1,3 +1,5 @@
+#![tactic(auto)]
+
 // Texts at every refusal and every edge, and what reading them gives.
 #[cfg(test)]
 mod apart;

@@ -8,7 +8,7 @@ use Rattle.traces.specs.Derivatives.{keep, nonzero, derivatives}
 use Rattle.expressions.specs.Model.{model, models}
 use Rattle.derivatives.specs.Rounds.{between, behind}
 use Rattle.expressions.specs.declared.expr.Expr.{Expr}
-use Rattle.expressions.specs.declared.expr.Expr.TheVariants.{Event, One, Zero, Sum', Cat', Star'}
+use Rattle.expressions.specs.declared.expr.Expr.TheVariants.{One}
 
 -- ── one turn of the loop ──
 

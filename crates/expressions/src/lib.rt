@@ -1,6 +1,7 @@
 //! Expressions over events as boxed trees, built by normalising constructors and compared by their symbols.
 //!
 //! Every contract speaks of the `model` of an expression, which is the expression of the theory.
+#![tactic(auto)]
 
 mod construct;
 mod events;

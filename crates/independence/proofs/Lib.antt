@@ -1,2 +1,4 @@
+pub mod Clashes
 pub mod Enumerating
+pub mod Processes
 pub mod Saying

@@ -1,5 +1,5 @@
 -- Pairs that an apart list gave say what its records say.
-use Rattle.std.proofs.Common.{◌≡◌, ℕ, zero, suc, ◌<◌, Bool, true, ◌⊎◌, List, [], ◌∷◌, length, get_or, Decides, refl, inl, inr, ⊎_elim, arith}
+use Rattle.std.proofs.Common.{◌≡◌, ℕ, suc, ◌<◌, Bool, ◌⊎◌, List, [], ◌∷◌, length, refl, inl, inr, ⊎_elim, arith}
 use Rattle.lines.specs.declared.field.Field.{Field}
 use Rattle.ordered.specs.Insertion.{Holds}
 use Rattle.std.proofs.ByRecursion.{all-has, All-weaker}
@@ -8,8 +8,7 @@ use Rattle.std.specs.List.{ContainsAt as Has, AllByRecursion as All}
 use Rattle.tables.specs.Entering.{Table}
 use Rattle.tables.specs.Listing.{NamesBoth, ListsBoth, ListsApart}
 use Rattle.tables.specs.Pairing.{Pair, itself}
-use Rattle.tables.specs.Tabulating.{row_in}
-use Rattle.independence.specs.Parting.{Parted, ByPairs, SaidApart, ByList}
+use Rattle.independence.specs.Parting.{ByPairs, ByList}
 
 held : (xs : List Pair) → All (λ y. Holds itself y xs) xs
 held [] = tt

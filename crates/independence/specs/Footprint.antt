@@ -1,5 +1,5 @@
 -- Events that do not meet on a cell, by the table and by the records of its text.
-use Rattle.std.specs.Prelude.{◌≡◌, ℕ, zero, suc, ◌<◌, Bool, false, not, ◌&&◌, ◌||◌, ◌⊎◌, List, length, Decides, ◌==◌, ◌≢◌, nat_lt}
+use Rattle.std.specs.Prelude.{ℕ, zero, suc, ◌<◌, Bool, false, not, ◌&&◌, ◌||◌, ◌⊎◌, List, length, Decides, ◌==◌, ◌≢◌, nat_lt}
 use Rattle.lines.specs.declared.field.Field.{Field}
 use Rattle.tables.specs.declared.row.Access.{Access}
 use Rattle.tables.specs.declared.row.Access.TheVariants.{Read, Write}

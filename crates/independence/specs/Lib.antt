@@ -1,5 +1,4 @@
 pub mod Footprint
 pub mod Parting
 pub mod Pairing
-pub mod Processes
-pub mod Clashes
+pub mod Laws

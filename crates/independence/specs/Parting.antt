@@ -1,5 +1,5 @@
 -- Events whose processes are apart, by a list of pairs of processes.
-use Rattle.std.specs.Prelude.{◌≡◌, ℕ, ◌<◌, Bool, false, not, ◌&&◌, ◌||◌, ◌⊎◌, List, [], ◌∷◌, length, Some, None, Decides, Option, ◌==◌, ◌≢◌}
+use Rattle.std.specs.Prelude.{ℕ, ◌<◌, Bool, false, not, ◌&&◌, ◌||◌, ◌⊎◌, List, [], ◌∷◌, length, Some, None, Decides, Option, ◌==◌, ◌≢◌}
 use Rattle.lines.specs.declared.field.Field.{Field}
 use Rattle.std.specs.List.{ContainsAt as Has}
 use Rattle.tables.specs.Entering.{Table}

@@ -2,7 +2,7 @@
 ghost use Rattle.std.specs.Prelude.{◌≡◌};
 ghost use Rattle.tables.specs.Entering.{entered};
 ghost use Rattle.independence.specs.Parting.{listed, apart_by_processes, ByPairs, ByList};
-ghost use Rattle.independence.specs.Processes.{processes_irreflexive, processes_symmetric, processes_bounded};
+ghost use Rattle.independence.specs.Laws.{processes_irreflexive, processes_symmetric, processes_bounded};
 
 use crate::relation::{Independence, Relation};
 use tables::events::EventTable;

@@ -1,6 +1,6 @@
 // Two independences at once.
 ghost use Rattle.std.specs.Prelude.{◌&&◌};
-ghost use Rattle.std.proofs.Common.{rules};
+ghost use Rattle.independence.specs.Laws.{both_irreflexive, both_symmetric, both_bounded};
 
 use crate::relation::{Independence, Relation};
 
@@ -14,11 +14,11 @@ pub struct Both<X, Y> {
 impl<X: Relation, Y: Relation> Relation for Both<X, Y> {
     ghost relation = { λ x a b. X.Relation.relation x.first a b && Y.Relation.relation x.second a b };
 
-    ghost irreflexive = { Prim.search rules };
+    ghost irreflexive = { λ x a. both_irreflexive (X.Relation.relation x.first a a) (Y.Relation.relation x.second a a) (X.Relation.irreflexive x.first a) };
 
-    ghost symmetric = { Prim.search rules };
+    ghost symmetric = { λ x a b. both_symmetric (X.Relation.relation x.first a b) (Y.Relation.relation x.second a b) (X.Relation.relation x.first b a) (Y.Relation.relation x.second b a) (X.Relation.symmetric x.first a b) (Y.Relation.symmetric x.second a b) };
 
-    ghost bounded = { Prim.search rules };
+    ghost bounded = { λ x a b. both_bounded (X.Relation.relation x.first a b) (Y.Relation.relation x.second a b) a (X.Relation.bounded x.first a b) };
 }
 
 impl<X: Independence, Y: Independence> Independence for Both<X, Y> {

@@ -2,7 +2,7 @@
 ghost use Rattle.std.specs.Prelude.{◌≡◌, refl};
 ghost use Rattle.tables.specs.Entering.{entered};
 ghost use Rattle.independence.specs.Footprint.{disturbs, clash_on, apart_by_cells, ByRecords};
-ghost use Rattle.independence.specs.Clashes.{apart_irreflexive, apart_symmetric, apart_bounded};
+ghost use Rattle.independence.specs.Laws.{cells_irreflexive, cells_symmetric, cells_bounded};
 
 use crate::relation::{Independence, Relation};
 use tables::events::EventTable;
@@ -39,11 +39,11 @@ impl<'a> Footprints<'a> {
 impl<'a> Relation for Footprints<'a> {
     ghost relation = { λ x. apart_by_cells (entered x.events.now.entries) };
 
-    ghost irreflexive = { λ x a. apart_irreflexive (entered x.events.now.entries) a a refl };
+    ghost irreflexive = { λ x a. cells_irreflexive (entered x.events.now.entries) a a refl };
 
-    ghost symmetric = { λ x a b. apart_symmetric (entered x.events.now.entries) a b };
+    ghost symmetric = { λ x a b. cells_symmetric (entered x.events.now.entries) a b };
 
-    ghost bounded = { λ x a b. apart_bounded (entered x.events.now.entries) a b x.events.now.text.now x.events.now.exact };
+    ghost bounded = { λ x a b. cells_bounded (entered x.events.now.entries) a b x.events.now.text.now x.events.now.exact };
 }
 
 impl<'a> Independence for Footprints<'a> {

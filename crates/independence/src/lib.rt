@@ -1,4 +1,5 @@
 // Which events are independent of each other: the trait, and its kinds.
+#![tactic(auto)]
 
 pub mod apart;
 pub mod both;

@@ -1,4 +1,6 @@
 // A list in strictly rising order, over a store that the caller lends.
+#![tactic(auto)]
+
 mod full;
 mod laws;
 mod list;

@@ -18,7 +18,7 @@ use Rattle.tables.proofs.Numbers.{Numbered, number_below, number_name, numbered_
 -- one more cell for a known event
 module _ (text : List ℕ) (t : Table) (w : Whole text t) (x : List ℕ) (n : ℕ) (known : number_of text t.events x ≡ Some n)
     (access : Access) (cell : Field) (k : ℕ) (after : List Field) (m : Numbered text t.cells cell 64 k after)
-    (is_name : is_name (bytes_of text cell) ≡ true) where
+    (named : is_name (bytes_of text cell) ≡ true) where
   abbrev pub cell_added : Table
   cell_added =
       record { events = t.events; processes = t.processes; cells = after; rows = rows_with access k n t.rows }
@@ -81,7 +81,7 @@ module _ (text : List ℕ) (t : Table) (w : Whole text t) (x : List ℕ) (n : �
       record {
         events = w.events;
         processes = w.processes;
-        cells = (m.few w.cells.0, numbered_all text t.cells cell 64 k after m (λ f. is_name (bytes_of text f) ≡ true) is_name w.cells.1);
+        cells = (m.few w.cells.0, numbered_all text t.cells cell 64 k after m (λ f. is_name (bytes_of text f) ≡ true) named w.cells.1);
         rows = length-set t.rows n _ ∙ w.rows;
         runs = λ e h. omega (arith, row_process e, w.runs e (omega (arith, length-set t.rows n (with_cell access k (row_in t n)))));
         within = λ a e c h.

@@ -1,5 +1,5 @@
 -- The cells of a field, entered one after another.
-use Rattle.std.proofs.Common.{◌≡◌, ℕ, ◌<◌, List, [], ◌∷◌, length, Ok, Err, Result, sym, refl, ap, ◌∙◌, arith}
+use Rattle.std.proofs.Common.{◌≡◌, ℕ, ◌<◌, List, [], ◌∷◌, length, Ok, Err, Result, refl, ap, ◌∙◌, arith}
 use Rattle.lines.specs.declared.field.Field.{Field}
 use Rattle.lines.specs.Fields.{parted}
 use Rattle.tables.specs.declared.fault.NamesFault.{NamesFault}

@@ -1,5 +1,5 @@
 -- What the records of an event table enter, one after another.
-use Rattle.std.specs.Prelude.{ℕ, Bool, true, false, cond, List, [], ◌∷◌, ◌++◌, Some, None, Ok, Err, vec_items, Option, Result, ◌==◌, slice_index_or}
+use Rattle.std.specs.Prelude.{ℕ, Bool, false, cond, List, [], ◌∷◌, ◌++◌, Some, None, Ok, Err, vec_items, Option, Result, ◌==◌, slice_index_or}
 use Rattle.lines.specs.declared.field.Field.{Field}
 use Rattle.lines.specs.Fields.{bytes_of, parted}
 use Rattle.tables.specs.declared.entries.Entries.{Entries}

@@ -1,4 +1,6 @@
 // Tables of names: what a name is, and the table of events with what each reads and writes.
+#![tactic(auto)]
+
 pub mod apart;
 mod entries;
 pub mod events;

@@ -48,9 +48,12 @@ then_parts Less p e = absurd (less≢equal e)
 then_parts Equal p e = (refl, e)
 then_parts Greater p e = absurd (greater≢equal e)
 
+rank_same : (m : ℕ) → nat_cmp m m ≡ Equal
+rank_same m = grind (arith, nat_tests)
+
 lex_self : (s : List ℕ) → slice_cmp nat_cmp s s ≡ Equal
 lex_self [] = refl
-lex_self (x ∷ s) = ap (λ o. ordering_then o (slice_cmp nat_cmp s s)) (sym (nat_cmp_total.says x x Equal refl)) ∙ lex_self s
+lex_self (x ∷ s) = ap (λ o. ordering_then o (slice_cmp nat_cmp s s)) (rank_same x) ∙ lex_self s
 
 lex_equal : (s t : List ℕ) → slice_cmp nat_cmp s t ≡ Equal → s ≡ t
 lex_equal [] [] e = refl

@@ -2,6 +2,7 @@
 //
 // Each contract is a theorem of `specs/`, and the functions themselves do nothing.
 // `docs/THEORY.md` explains the definitions and the theorems.
+#![tactic(auto)]
 
 ghost use Rattle.traces.specs.Theorems.{ExchangesReverse, ClosureNever, EqualDecides, NormalWords, NormalBuilt, NormalPlain, NormalHasWord, WordsBelow, ClosureBelow, EventsStayBelow, KeepWords, DerivativesNormal, DerivativesClosure, NullableDecides, NullableClosure, NonemptyPrefix, AfterAppend, EmptyStaysEmpty, MembersCount, SizeCountsSymbols, OrderTotal, OrderEqual, OrderByParts};
 ghost use Rattle.traces.specs.Swaps.{SwapsReachOrder, SwapsAreExchanges, ClosureByOrders};

@@ -8,4 +8,4 @@ pub returns : goal.returns
 returns c =
     let e = c.args.e.now in
     let f = c.args.f.now in
-    c.compare-trees.ensures ∙ sym (order_by_parts (model e) (model f) (events_below e) (events_below f))
+    c.compare_trees.ensures ∙ sym (order_by_parts (model e) (model f) (events_below e) (events_below f))

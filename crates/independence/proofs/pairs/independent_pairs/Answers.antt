@@ -5,8 +5,8 @@ use Rattle.independence.proofs.pairs.independent_pairs.Goals as goal
 
 pub loop-a-preserved : goal.loop-a-preserved
 loop-a-preserved g c =
-    from_more (g.I.Relation.relation c.args.rule.now) event_limit (vec_items c.loop-a.pairs) (vec_items c.add-pairs-of.new.pairs)
-    c.loop-a.a (omega (arith, limit_is)) c.in-ok-add-pairs-of.ensures
+    from_more (g.I.Relation.relation c.args.rule.now) event_limit (vec_items c.loop-a.pairs) (vec_items c.add_pairs_of.new.pairs)
+    c.loop-a.a (omega (arith, limit_is)) c.in_ok-add_pairs_of.ensures
     ∙ c.loop-a.invariant
 
 pub returns : goal.returns

@@ -1,6 +1,6 @@
-use Rattle.std.proofs.Common.{◌≡◌, ◌+◌, ◌∷◌, ◌++◌, length, take, drop, set, Some, sym, ap, ◌∙◌, add-zero, arith}
+use Rattle.std.proofs.Common.{◌≡◌, ◌+◌, ◌++◌, length, take, drop, set, Some, sym, ap, ◌∙◌, add-zero, arith}
 use Rattle.std.proofs.lemmas.List.{length-set, length-replicate}
-use Rattle.lines.specs.Fields.{between, parted, fields_at}
+use Rattle.lines.specs.Fields.{between, parted}
 use Rattle.lines.proofs.Parting.{parted-some, parted_here, parted_on, parted_last, length-joined, put_next, put_last, exactly_all, exactly_none}
 use Rattle.lines.proofs.scan.split.Goals as goal
 

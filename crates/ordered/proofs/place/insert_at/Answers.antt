@@ -9,6 +9,6 @@ returns g c =
     let x = c.args.x in
     let lt = c.requires.0 in
     let le = c.requires.1 in
-    let r = c.rotate-right.new.self in
-    let e = turned s n p x lt le _ r (part s n p x lt le) c.rotate-right.ensures.after in
+    let r = c.rotate_right.new.self in
+    let e = turned s n p x lt le _ r (part s n p x lt le) c.rotate_right.ensures.after in
     record { front = opened_front s n p x lt le r e; rest = opened-rest s n p x lt le r e }

@@ -11,8 +11,8 @@ use Rattle.sets.proofs.matching.advance.Goals as goal
 pub loop-member-preserved : goal.loop-member-preserved
 loop-member-preserved c =
     member_step append_each append_join never c.args.event c.args.members.now c.loop-member.member-index c.member-item.result c.loop-member-test.true c.member-item.is
-    (models (vec_items c.in-ok-derivatives.field-0)) (models (vec_items c.loop-member.out)) _ c.in-ok-derivatives.ensures c.loop-member.invariant
-    (models (vec_items c.append-each.new.members)) c.in-ok-append-each.ensures
+    (models (vec_items c.in_ok-derivatives.field-0)) (models (vec_items c.loop-member.out)) _ c.in_ok-derivatives.ensures c.loop-member.invariant
+    (models (vec_items c.append_each.new.members)) c.in_ok-append_each.ensures
 
 pub returns : goal.returns
 returns c =

@@ -9,12 +9,12 @@ use Rattle.tables.specs.Pairing.{Pair, add_pair}
 use Rattle.tables.proofs.Turns.{records_some, records_fault}
 use Rattle.tables.proofs.apart.read_pairs.Goals as goal
 
-pub returns-in-err-fields : goal.returns-in-err-fields
-returns-in-err-fields c =
+pub returns-in_err-fields : goal.returns-in_err-fields
+returns-in_err-fields c =
     let text = c.args.text.now in
     let add = add_pair c.args.events.now.text.now (entered c.args.events.now.entries) text in
     let place = c.loop-fields.records.position.place in
-    let r = c.in-err-fields.ensures.read ∙ ap (λ (bs : List ℕ). fields_in (next_record 2 bs place)) c.loop-fields.invariant.0 in
+    let r = c.in_err-fields.ensures.read ∙ ap (λ (bs : List ℕ). fields_in (next_record 2 bs place)) c.loop-fields.invariant.0 in
     let d = sym c.loop-fields.invariant.1 ∙ records_fault 2 add text place (members c.loop-fields.pairs) _ r in
     rw d (search rules)
 
@@ -24,21 +24,21 @@ loop-fields-preserved c =
     let add = add_pair c.args.events.now.text.now (entered c.args.events.now.entries) text in
     let place = c.loop-fields.records.position.place in
     let t = c.loop-fields.invariant.0 in
-    let r = sym (ap Ok c.in-Some.is) ∙ c.in-ok-fields.ensures.read ∙ ap (λ (bs : List ℕ). fields_in (next_record 2 bs place)) t in
-    let m = c.in-ok-fields.ensures.moved ∙ ap (λ (bs : List ℕ). place_after place (next_record 2 bs place)) t in (
-      ap (λ x. x.now) c.in-ok-fields.ensures.kept.0 ∙ t,
-      ap (λ (p : ℕ). records_from 2 add text p (members c.add-record.new.pairs)) m
-          ∙ ap (λ (o : Result (List Pair) NamesFault). and_then o (records_from 2 add text (place_after place (next_record 2 text place)))) c.in-ok-add-record.ensures.exact
+    let r = sym (ap Ok c.in-Some.is) ∙ c.in_ok-fields.ensures.read ∙ ap (λ (bs : List ℕ). fields_in (next_record 2 bs place)) t in
+    let m = c.in_ok-fields.ensures.moved ∙ ap (λ (bs : List ℕ). place_after place (next_record 2 bs place)) t in (
+      ap (λ x. x.now) c.in_ok-fields.ensures.kept.0 ∙ t,
+      ap (λ (p : ℕ). records_from 2 add text p (members c.add_record.new.pairs)) m
+          ∙ ap (λ (o : Result (List Pair) NamesFault). and_then o (records_from 2 add text (place_after place (next_record 2 text place)))) c.in_ok-add_record.ensures.exact
           ∙ sym (records_some 2 add text place (members c.loop-fields.pairs) c.in-Some.fields r)
           ∙ c.loop-fields.invariant.1,
-      c.in-ok-add-record.ensures.roomy,
+      c.in_ok-add_record.ensures.roomy,
     )
 
-pub returns-in-err-add-record : goal.returns-in-err-add-record
-returns-in-err-add-record c =
+pub returns-in_err-add_record : goal.returns-in_err-add_record
+returns-in_err-add_record c =
     let text = c.args.text.now in
     let add = add_pair c.args.events.now.text.now (entered c.args.events.now.entries) text in
     let place = c.loop-fields.records.position.place in
-    let r = sym (ap Ok c.in-Some.is) ∙ c.in-ok-fields.ensures.read ∙ ap (λ (bs : List ℕ). fields_in (next_record 2 bs place)) c.loop-fields.invariant.0 in
+    let r = sym (ap Ok c.in-Some.is) ∙ c.in_ok-fields.ensures.read ∙ ap (λ (bs : List ℕ). fields_in (next_record 2 bs place)) c.loop-fields.invariant.0 in
     let d = sym c.loop-fields.invariant.1 ∙ records_some 2 add text place (members c.loop-fields.pairs) c.in-Some.fields r in
     rw d (search rules)

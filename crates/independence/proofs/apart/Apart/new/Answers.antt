@@ -1,7 +1,7 @@
 use Rattle.std.proofs.Common.{refl}
 use Rattle.tables.specs.Entering.{entered}
-use Rattle.independence.specs.Parting.{ByPairs, apart_by_processes}
-use Rattle.independence.specs.Processes.{processes_by_pairs}
+use Rattle.independence.specs.Parting.{apart_by_processes}
+use Rattle.independence.proofs.Processes.{processes_by_pairs}
 use Rattle.independence.proofs.Saying.{by_list}
 use Rattle.independence.proofs.apart.Apart.new.Goals as goal
 

@@ -1,6 +1,6 @@
 use Rattle.std.proofs.Common.{refl}
 use Rattle.tables.specs.Entering.{entered}
-use Rattle.independence.specs.Clashes.{apart_by_records}
+use Rattle.independence.proofs.Clashes.{apart_by_records}
 use Rattle.independence.proofs.footprints.Footprints.new.Goals as goal
 
 pub returns : goal.returns

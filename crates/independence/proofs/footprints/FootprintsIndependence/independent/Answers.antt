@@ -1,6 +1,6 @@
 use Rattle.std.proofs.Common.{sym, ◌∙◌, arith}
 use Rattle.tables.specs.Entering.{entered}
-use Rattle.independence.specs.Clashes.{below_more, clash_not_apart}
+use Rattle.independence.proofs.Clashes.{below_more, clash_not_apart}
 use Rattle.independence.proofs.footprints.FootprintsIndependence.independent.Goals as goal
 
 pub returns-then-clash : goal.returns-then-clash

@@ -1,4 +1,3 @@
-use Rattle.std.proofs.Common.{◌∙◌}
 use native.Mathlib.Nat.{add-sub_cancel_left}
 use Rattle.lines.proofs.Parts.{part_cut}
 use Rattle.lines.proofs.field.Field.bytes.Goals as goal

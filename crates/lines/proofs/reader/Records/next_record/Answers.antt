@@ -6,6 +6,6 @@ pub returns : goal.returns
 returns g c = record {
   read = search rules;
   moved = search rules;
-  forward = record_forward g.row.WIDTH c.args.self.now.text.now c.args.self.now.position.place c.in-ok-fields.fields c.in-ok-fields.next (sym c.in-ok-fields.ensures) c.if-place-self.false;
+  forward = record_forward g.row.WIDTH c.args.self.now.text.now c.args.self.now.position.place c.in_ok-fields.fields c.in_ok-fields.next (sym c.in_ok-fields.ensures) c.if-place-self.false;
   kept = search rules;
 }

@@ -39,14 +39,14 @@ returns-then-len-capacity g c =
       holds = tt;
     }
 
-pub insert-at-requires : goal.insert-at-requires
-insert-at-requires g c =
+pub insert_at-requires : goal.insert_at-requires
+insert_at-requires g c =
     let w = count_within c.args.self.now.len c.args.self.now.store.now in
     let e = ap length c.members.ensures in
     (omega arith, omega (arith, c.in-Some.ensures.0))
 
-pub overflow-add-self : goal.overflow-add-self
-overflow-add-self g c =
+pub overflow_add-self : goal.overflow_add-self
+overflow_add-self g c =
     let w = count_within c.args.self.now.len c.args.self.now.store.now in
     let lt : c.len-len.result < length c.args.self.now.store.now = omega arith in
     search rules
@@ -60,16 +60,16 @@ returns-else-len-capacity g c =
     let l = c.args.self.now in
     let k = c.len-len.result in
     let p = c.in-Some.place in
-    let t = c.insert-at.new.store in
+    let t = c.insert_at.new.store in
     let w = count_within l.len l.store.now in
     let lt : k < length l.store.now = omega arith in
     let h = subst (λ (ys : List _). Placed content order x ys (Some p)) c.members.ensures c.in-Some.ensures in
-    let e = put_in content order x l k t c.len-len.ensures.count p h c.insert-at.ensures.front in
+    let e = put_in content order x l k t c.len-len.ensures.count p h c.insert_at.ensures.front in
     record {
       lent = refl {a = l.store.ghost_name};
       answers = room content order x l k c.len-len.ensures.count h.1 lt;
       exact = e;
-      rest = left_over content order x l k t c.len-len.ensures.count c.insert-at.ensures.rest;
+      rest = left_over content order x l k t c.len-len.ensures.count c.insert_at.ensures.rest;
       rises = rises content order laws.same laws.converse laws.transitive x (members l) _ e;
       holds = holds content order laws.same laws.converse laws.transitive x (members l) _ e;
     }

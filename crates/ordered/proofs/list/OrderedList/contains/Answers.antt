@@ -12,8 +12,8 @@ returns g c =
     let laws = g.met.E.TotalOrder in
     let x = c.args.x.now in
     let xs = members c.args.self.now in
-    let e : c.is-none.result ≡ member_by content order x xs =
-    no_place content order x c.members.result.now c.insertion-point.result c.is-none.result c.insertion-point.ensures c.is-none.ensures
+    let e : c.is_none.result ≡ member_by content order x xs =
+    no_place content order x c.members.result.now c.insertion_point.result c.is_none.result c.insertion_point.ensures c.is_none.ensures
     ∙ ap (member_by content order x) c.members.ensures in
     record {
       exact = e;

@@ -2,8 +2,8 @@ use Rattle.std.proofs.Common.{◌≡◌, ℕ, ◌-◌, take, sym, ap, ◌∙◌,
 use Rattle.ordered.proofs.Counting.{count_within}
 use Rattle.ordered.proofs.list.OrderedList.members.Goals as goal
 
-pub slice-bounds-result-end : goal.slice-bounds-result-end
-slice-bounds-result-end g c = omega (arith, count_within c.args.self.now.len c.args.self.now.store.now)
+pub slice_bounds-result-end : goal.slice_bounds-result-end
+slice_bounds-result-end g c = omega (arith, count_within c.args.self.now.len c.args.self.now.store.now)
 
 pub returns : goal.returns
 returns g c =

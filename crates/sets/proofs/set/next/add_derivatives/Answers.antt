@@ -12,29 +12,29 @@ use Rattle.sets.proofs.Nexts.{member_first, member_step}
 use Rattle.sets.proofs.set.next.add_derivatives.Goals as goal
 use Rattle.std.specs.Ordering.{nat_cmp}
 
-pub returns-in-err-add-each : goal.returns-in-err-add-each
-returns-in-err-add-each g c =
+pub returns-in_err-add_each : goal.returns-in_err-add_each
+returns-in_err-add_each g c =
     let rel = g.I.Relation.relation c.args.rule.now in
-    let f = c.in-err-add-each.field-0.0 in
-    let Ds = models (vec_items c.in-ok-derivatives.field-0) in
+    let f = c.in_err-add_each.field-0.0 in
+    let Ds = models (vec_items c.in_ok-derivatives.field-0) in
     let L = models (members c.loop-member.list) in
     record {
-      added = refusal_passed c.from-residual-in-err-add-each.result _ _ f c.from-residual-in-err-add-each.ensures.1
+      added = refusal_passed c.from_residual-in_err-add_each.result _ _ f c.from_residual-in_err-add_each.ensures.1
           (refused_each f Ds (next rel c.args.event (models (drop (c.loop-member.member-index + 1) c.args.members.now))) L _
           (member_first insert_each (insert-append symbols (slice_cmp nat_cmp)) rel c.args.event c.args.members.now c.loop-member.member-index c.member-item.result c.loop-member-test.true c.member-item.is
-          Ds L _ c.in-ok-derivatives.ensures c.loop-member.invariant.0)
-          c.in-err-add-each.ensures.added);
-      lent = c.in-err-add-each.ensures.lent ∙ c.loop-member.invariant.2;
+          Ds L _ c.in_ok-derivatives.ensures c.loop-member.invariant.0)
+          c.in_err-add_each.ensures.added);
+      lent = c.in_err-add_each.ensures.lent ∙ c.loop-member.invariant.2;
     }
 
 pub loop-member-preserved : goal.loop-member-preserved
 loop-member-preserved g c =
     let rel = g.I.Relation.relation c.args.rule.now in
-    let Ds = models (vec_items c.in-ok-derivatives.field-0) in
+    let Ds = models (vec_items c.in_ok-derivatives.field-0) in
     let L = models (members c.loop-member.list) in
-    let all = c.in-ok-add-each.ensures in (
+    let all = c.in_ok-add_each.ensures in (
       member_step insert_each (insert-append symbols (slice_cmp nat_cmp)) rel c.args.event c.args.members.now c.loop-member.member-index c.member-item.result c.loop-member-test.true c.member-item.is
-          Ds L _ c.in-ok-derivatives.ensures c.loop-member.invariant.0 (models (members c.add-each.new.list)) all.added.0,
+          Ds L _ c.in_ok-derivatives.ensures c.loop-member.invariant.0 (models (members c.add_each.new.list)) all.added.0,
       all.ready,
       all.lent ∙ c.loop-member.invariant.2,
     )

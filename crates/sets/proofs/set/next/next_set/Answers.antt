@@ -15,23 +15,23 @@ kept : (v : Vec Expr Global) (ws items : List Expr) (n : ℕ) (Es : List Exp)
     → length ws ≡ vec_len v → items ≡ take n (vec_items (with_items v ws)) → models (take n ws) ≡ Es → models items ≡ Es
 kept v ws items n Es long cut filled = ap models (cut ∙ ap (take n) (with_items_is v ws long)) ∙ filled
 
-pub invariant-of-result : goal.invariant-of-result
-invariant-of-result g c =
-    let filled = c.in-ok-count.ensures in
+pub invariant_of-result : goal.invariant_of-result
+invariant_of-result g c =
+    let filled = c.in_ok-count.ensures in
     let all = next (g.I.Relation.relation c.args.rule.now) c.args.event (models c.args.members.now) in
     let held =
-    kept c.in-ok-store.store c.fill.new.store (vec_items c.truncate.new.self) c.in-ok-count.count (sorted all)
-    (c.fill.auto.store ∙ c.as-mut-slice.ensures.len) c.truncate.ensures.items filled.0 in
-    (ap wide held ∙ filled.1, (ap rises held ∙ sorted_rises all, tt))
+    kept c.in_ok-store.store c.fill.new.store (vec_items c.truncate.new.self) c.in_ok-count.count (sorted all)
+    (c.fill.auto.store ∙ c.as_mut_slice.ensures.len) c.truncate.ensures.items filled.0 in
+    record { narrow = ap wide held ∙ filled.1; rising = ap rises held ∙ sorted_rises all }
 
 pub returns : goal.returns
 returns g c =
-    let filled = c.in-ok-count.ensures in
+    let filled = c.in_ok-count.ensures in
     let rel = g.I.Relation.relation c.args.rule.now in
     let all = next rel c.args.event (models c.args.members.now) in
     let held =
-    kept c.in-ok-store.store c.fill.new.store (vec_items c.truncate.new.self) c.in-ok-count.count (sorted all)
-    (c.fill.auto.store ∙ c.as-mut-slice.ensures.len) c.truncate.ensures.items filled.0 in
+    kept c.in_ok-store.store c.fill.new.store (vec_items c.truncate.new.self) c.in_ok-count.count (sorted all)
+    (c.fill.auto.store ∙ c.as_mut_slice.ensures.len) c.truncate.ensures.items filled.0 in
     record {
       exact = (held, filled.1);
       same = subst (λ Es. SameMembers Es all) (sym held) (next_same rel c.args.event c.args.members.now);

@@ -1,5 +1,5 @@
 use Rattle.std.proofs.Common.{◌≡◌, ◌+◌, ◌≤◌, drop}
-use Rattle.lines.specs.Fields.{bytes_of, parted}
+use Rattle.lines.specs.Fields.{parted}
 use Rattle.tables.specs.Entering.{entered, add_each, add_cells}
 use Rattle.tables.proofs.entries.Entries.add_cells.Given as goal
 

@@ -15,7 +15,7 @@ returns-in-Err c =
     let text = log.records.text.now in
     let place = log.records.position.place in
     let fields = c.in-Some.fields in
-    let next = c.in-ok-fields.ensures in
+    let next = c.in_ok-fields.ensures in
     let same = c.text.ensures ∙ ap (λ x. x.now) next.kept.0 in
     let e =
     next_fault table t text place fields c.in-Err.fault (sym (ap Ok c.in-Some.is) ∙ next.read)

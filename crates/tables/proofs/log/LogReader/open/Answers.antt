@@ -9,5 +9,5 @@ returns c =
     record {
       result = search rules;
       over = search rules;
-      logged = logged events.text.now (entered events.entries) c.args.text.now events.exact c.in-ok-records.records.position.place;
+      logged = logged events.text.now (entered events.entries) c.args.text.now events.exact c.in_ok-records.records.position.place;
     }

@@ -1,37 +1,18 @@
 -- Two events clash on a cell: by the table, and by the records of its text.
-use Rattle.std.specs.Prelude.{◌≡◌, ℕ, zero, suc, ◌+◌, ◌<◌, Bool, true, false, not, ◌&&◌, ◌⊎◌, List, length, Ok, Decides, ◌==◌, nat_lt, refl}
+use Rattle.std.specs.Prelude.{◌≡◌, ℕ, ◌+◌, ◌<◌, true, false, not, ◌⊎◌, List, length, Decides, ◌==◌, nat_lt, refl}
 use Rattle.std.proofs.Common.{ap, sym, subst, ◌∙◌, inl, inr, add-one, arith}
-use Rattle.std.proofs.Math.Bool.{or_comm}
-use Rattle.std.proofs.Math.Logic.{∥∥₁_elim}
-use Rattle.std.proofs.Math.Bridge.{le_prop}
 use Rattle.lines.specs.declared.field.Field.{Field}
-use Rattle.std.proofs.lemmas.Bool.{and_from, and_parts, cond-true, eq-eqb, lt-ltb, ltb-true, or_from}
-use Rattle.std.proofs.lemmas.Bool.Decides.{Decides-and, Decides-at, Decides-below_or, Decides-like, Decides-eqb, Decides-not, Decides-or, same_from_decides}
+use Rattle.std.proofs.lemmas.Bool.{and_from, and_parts, cond-true, lt-ltb, ltb-true, or_from}
+use Rattle.std.proofs.lemmas.Bool.Decides.{Decides-and, Decides-at, Decides-below_or, Decides-like, Decides-eqb, Decides-not, Decides-or}
 use Rattle.tables.specs.declared.row.Access.{Access}
 use Rattle.tables.specs.declared.row.Access.TheVariants.{Read, Write}
 use Rattle.tables.specs.Entering.{Table}
 use Rattle.tables.specs.Rowing.{lists, lists_at}
-use Rattle.tables.specs.Tabling.{event_table}
 use Rattle.tables.specs.Tabulating.{Lists, Tabulates, name_in, row_in}
 use Rattle.tables.proofs.Listed.{cell_known}
-use Rattle.tables.proofs.Tabulated.{events_few}
-use Rattle.independence.specs.Footprint.{row_lists, disturbs, clash_on, clash_below, apart_by_cells, Disturbs, Undisturbed, ByRecords}
-
--- two tests and what they leave out, the other way round
-turned : (p q e f c d : Bool) → e ≡ f → c ≡ d → (p && (q && (not e && not c))) ≡ (q && (p && (not f && not d)))
-turned true true e f c d h k = cc
-turned true false e f c d h k = refl
-turned false true e f c d h k = refl
-turned false false e f c d h k = refl
+use Rattle.independence.specs.Footprint.{row_lists, clash_on, clash_below, apart_by_cells, Disturbs, Undisturbed, ByRecords}
 
 module _ (t : Table) (a b : ℕ) where
-  below_turned : (n : ℕ) → clash_below t a b n ≡ clash_below t b a n
-  below_turned zero = refl
-  below_turned (suc n) =
-      let e = or_comm (disturbs t a b n) (disturbs t b a n) in
-      let r = below_turned n in
-      cc
-
   -- the loop's step, and what ends it before its time
   pub below_more : (n : ℕ) → clash_on t a b n ≡ false → clash_below t a b n ≡ false → clash_below t a b (n + 1) ≡ false
   below_more n h k = ap (clash_below t a b) (add-one n) ∙ or_from _ _ h k
@@ -42,23 +23,6 @@ module _ (t : Table) (a b : ℕ) where
 
   pub clash_not_apart : (c : ℕ) → c < length t.cells → clash_on t a b c ≡ true → apart_by_cells t a b ≡ false
   clash_not_apart c h e = let k = (below_decides (length t.cells)).1 (c, h, e) in grind arith
-
-  pub apart_symmetric : apart_by_cells t a b ≡ apart_by_cells t b a
-  apart_symmetric =
-      turned (nat_lt a (length t.events)) (nat_lt b (length t.events)) _ _ _ _
-      (same_from_decides (a == b) (b == a) (Decides-eqb a b) (Decides-like (b == a) sym sym (Decides-eqb b a)))
-      (below_turned (length t.cells))
-
-  pub apart_irreflexive : a ≡ b → apart_by_cells t a b ≡ false
-  apart_irreflexive e = let s = eq-eqb a b e in grind arith
-
-  apart_known : apart_by_cells t a b ≡ true → a < length t.events
-  apart_known e = ltb-true a (length t.events) (and_parts (nat_lt a (length t.events)) _ e).0
-
-  -- a table has at most 64 events
-  pub apart_bounded : (text : List ℕ) → ∥ event_table text ≡ Ok t ∥₁ → apart_by_cells t a b ≡ true → a < 64
-  apart_bounded text exact e =
-      let h = apart_known e in ∥∥₁_elim exact le_prop (λ is. omega (arith, events_few text t is))
 
 module _ (text : List ℕ) (rs : List (List Field)) (t : Table) (tab : Tabulates text rs t) where
   -- a row lists what the records of its event list
