@@ -3,7 +3,7 @@ use Rattle.std.proofs.Common.{◌≡◌, Bool, true, false, cond, ◌⊎◌, ◌
 use Rattle.std.proofs.lemmas.List.{map-append}
 use Rattle.std.proofs.lemmas.Bool.{cond-false}
 use Rattle.std.proofs.lemmas.Bool.Decides.{Decides-like}
-use Rattle.traces.specs.Members.{Member, Any, Subset}
+use Rattle.traces.specs.Members.{Member, Any}
 use Rattle.traces.specs.Words.{Word, never}
 use Rattle.traces.specs.Expressions.{Exp, Matches}
 use Rattle.traces.specs.Normal.{equal}

@@ -1,5 +1,5 @@
 -- How a list in order grows by an adding, and how much room is left in its store.
-use Rattle.std.proofs.Common.{◌≡◌, ℕ, suc, ◌+◌, ◌≤◌, Bool, true, false, cond, List, [], ◌∷◌, ◌++◌, length, drop, Ok, Err, Result, Ordering, Less, Equal, Greater, sym, refl, ap, ◌∙◌, arith}
+use Rattle.std.proofs.Common.{◌≡◌, ℕ, suc, ◌+◌, ◌≤◌, Bool, true, false, cond, List, [], ◌∷◌, ◌++◌, length, drop, Ok, Err, Ordering, Less, Equal, Greater, refl, ap, arith}
 use Rattle.ordered.specs.Insertion.{ranked, member_by, insert_by, insert_all}
 use Rattle.ordered.specs.Lists.{members, spare, admitted, answer}
 use Rattle.ordered.specs.declared.full.Full.{Full}

@@ -1,4 +1,5 @@
 //! Sets of expressions: the next set by an event, whether a member is nullable, and the plain matching of words.
+#![tactic(auto)]
 
 mod distinct;
 mod matching;

@@ -1,8 +1,7 @@
-use Rattle.std.proofs.Common.{◌+◌, [], get_or, drop, vec_items, Decides, sym, ap, ◌∙◌, subst, arith}
+use Rattle.std.proofs.Common.{◌+◌, [], get_or, drop, vec_items, sym, ap, ◌∙◌, arith}
 use Rattle.std.proofs.lemmas.List.{at_drop_more, at_drop_all}
-use Rattle.traces.specs.Members.{Any}
 use Rattle.traces.specs.Words.{never}
-use Rattle.traces.specs.Derivatives.{next, nullable}
+use Rattle.traces.specs.Derivatives.{next}
 use Rattle.expressions.specs.Model.{model, models}
 use Rattle.sets.specs.Distinct.{append_each, reached}
 use Rattle.sets.proofs.Appending.{reached_decides}

@@ -4,7 +4,7 @@ use Rattle.std.proofs.lemmas.List.{at_drop_all}
 use Rattle.ordered.specs.Lists.{members}
 use Rattle.traces.specs.Order.{symbols}
 use Rattle.traces.specs.Derivatives.{next}
-use Rattle.expressions.specs.Model.{model, models}
+use Rattle.expressions.specs.Model.{models}
 use Rattle.sets.specs.Sets.{insert_each, wide}
 use Rattle.sets.proofs.Inserting.{insert-append}
 use Rattle.sets.proofs.Widening.{refused_each, refusal_passed}
