@@ -1,5 +1,7 @@
 //! How many derivatives and next sets are built in a second. What was built is on standard output and always the same; the
 //! figures are on standard error.
+#![tactic(auto)]
+
 use crate::measure::Stopwatch;
 use crate::shapes::{chain, events_text, rounds, stars};
 use anyhow::anyhow;

@@ -1,4 +1,6 @@
 //! Holds the decision by sets of expressions to a search through all exchanges, on small expressions and words.
+#![tactic(auto)]
+
 use crate::pairs::Pairs;
 use crate::shapes::expressions;
 use crate::tally::{Tally, compared};

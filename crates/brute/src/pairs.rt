@@ -1,5 +1,4 @@
-ghost use Rattle.brute.specs.Pairs.{paired};
-ghost use Rattle.std.proofs.Common.{rules};
+ghost use Rattle.brute.specs.Pairs.{paired, paired_irreflexive, paired_symmetric, paired_bounded};
 
 use independence::relation::{Independence, Relation};
 
@@ -14,11 +13,11 @@ pub struct Pairs {
 impl Relation for Pairs {
     ghost relation = { λ p. paired p.low p.outer p.high };
 
-    ghost irreflexive = { Prim.search rules };
+    ghost irreflexive = { λ p. paired_irreflexive p.low p.outer p.high };
 
-    ghost symmetric = { Prim.search rules };
+    ghost symmetric = { λ p. paired_symmetric p.low p.outer p.high };
 
-    ghost bounded = { Prim.search rules };
+    ghost bounded = { λ p. paired_bounded p.low p.outer p.high };
 }
 
 impl Independence for Pairs {

@@ -4,7 +4,7 @@ use Rattle.std.proofs.lemmas.List.Elements.{filter-append}
 use Rattle.std.proofs.ByRecursion.{All-append, all-has, all_kept_by, All-weaker, has_append_left, has_append_right, kept_by_passes}
 use Rattle.std.proofs.lemmas.List.{append_assoc, append-nil}
 use Rattle.std.proofs.lemmas.Bool.{cases_eq, cond_both, cond-true, cond-false}
-use Rattle.std.specs.List.{ContainsAt as Has, AllByRecursion as All}
+use Rattle.std.specs.List.{ContainsAt as Has, AllByRecursion}
 use Rattle.independence.specs.Pairing.{event_limit, pairs_of, pairs_from, related, independent_pairs, Exactly}
 
 pub limit_is : event_limit ≡ 64
@@ -51,7 +51,7 @@ module _ (relation : ℕ → ℕ → Bool) (limit : ℕ) where
       ap (λ n. items ++ related relation (pairs_from a n)) e ∙ append-nil items
 
 -- what passes is kept
-kept_has : {X : Type 0} (p : X → Bool) (xs : List X) → All (λ x. p x ≡ true → Has (filter p xs) x) xs
+kept_has : {X : Type 0} (p : X → Bool) (xs : List X) → AllByRecursion (λ x. p x ≡ true → Has (filter p xs) x) xs
 kept_has p [] = tt
 kept_has p (x ∷ xs) = (
   λ t. subst (λ ys. Has ys x) (sym (cond-true (p x) _ _ t)) (has_append_left (x ∷ []) (filter p xs) x (0, omega arith, λ d. refl)),
@@ -84,11 +84,11 @@ from_has i (suc n) a b h k l =
 abbrev Rising : ℕ × ℕ → Type 0
 Rising p = p.0 < p.1
 
-of_rising : (a b n : ℕ) → a < b → All Rising (pairs_of a b n)
+of_rising : (a b n : ℕ) → a < b → AllByRecursion Rising (pairs_of a b n)
 of_rising a b zero h = tt
 of_rising a b (suc n) h = (h, of_rising a (b + 1) n (omega arith))
 
-from_rising : (i n : ℕ) → All Rising (pairs_from i n)
+from_rising : (i n : ℕ) → AllByRecursion Rising (pairs_from i n)
 from_rising i zero = tt
 from_rising i (suc n) = All-append Rising (pairs_of i (i + 1) n) (pairs_from (i + 1) n) (of_rising i (i + 1) n (omega arith)) (from_rising (i + 1) n)
 

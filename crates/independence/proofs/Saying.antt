@@ -4,13 +4,13 @@ use Rattle.lines.specs.declared.field.Field.{Field}
 use Rattle.ordered.specs.Insertion.{Holds}
 use Rattle.std.proofs.ByRecursion.{all-has, All-weaker}
 use Rattle.std.proofs.lemmas.Bool.{cases_order}
-use Rattle.std.specs.List.{ContainsAt as Has, AllByRecursion as All}
+use Rattle.std.specs.List.{ContainsAt as Has, AllByRecursion}
 use Rattle.tables.specs.Entering.{Table}
 use Rattle.tables.specs.Listing.{NamesBoth, ListsBoth, ListsApart}
 use Rattle.tables.specs.Pairing.{Pair, itself}
 use Rattle.independence.specs.Parting.{ByPairs, ByList}
 
-held : (xs : List Pair) → All (λ y. Holds itself y xs) xs
+held : (xs : List Pair) → AllByRecursion (λ y. Holds itself y xs) xs
 held [] = tt
 held (x ∷ xs) = (inl refl, All-weaker (λ y. Holds itself y xs) (λ y. Holds itself y (x ∷ xs)) (λ y h. inr h) xs (held xs))
 

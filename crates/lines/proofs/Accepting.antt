@@ -4,7 +4,7 @@ use lib.ListN.{length-map}
 use lib.Seq.{drop-append_seam}
 use Rattle.std.proofs.lemmas.List.{append_assoc, append_cancel_right, append-nil}
 use Rattle.std.proofs.lemmas.Bool.{cond-true, cond-false, eq-eqb, le-leb, lt-leb, le-ltb}
-use Rattle.std.specs.List.{AllByRecursion as All}
+use Rattle.std.specs.List.{AllByRecursion}
 use Rattle.lines.specs.declared.field.Field.{Field}
 use Rattle.lines.specs.Fields.{bytes_of, fields_at}
 use Rattle.lines.specs.Scanning.{body, ending_of}
@@ -120,7 +120,7 @@ last_shows row [] l = tt
 last_shows row (s ∷ rows) l = l
 
 module _ (width : ℕ) (text : List ℕ) (some-width : 0 < width) where
-  reads_whole : (row : List (List ℕ)) (rows : List (List (List ℕ))) (place : ℕ) → All (Row width) (row ∷ rows)
+  reads_whole : (row : List (List ℕ)) (rows : List (List (List ℕ))) (place : ℕ) → AllByRecursion (Row width) (row ∷ rows)
       → drop place text ≡ written (row ∷ rows) → Reads width text place (row ∷ rows)
   reads_whole row [] place h e = reads_last width text some-width place row h.0 e
   reads_whole row (s ∷ rows) place h e =
@@ -128,7 +128,7 @@ module _ (width : ℕ) (text : List ℕ) (some-width : 0 < width) where
       (omega (arith, written_long s rows))
       (reads_whole s rows (place + length (commas row) + 2) h.1 (line_behind text place (commas row) (written (s ∷ rows)) e))
 
-  reads_lacking : (row : List (List ℕ)) (rows : List (List (List ℕ))) (place : ℕ) → All (Row width) (row ∷ rows)
+  reads_lacking : (row : List (List ℕ)) (rows : List (List (List ℕ))) (place : ℕ) → AllByRecursion (Row width) (row ∷ rows)
       → drop place text ++ (13 ∷ 10 ∷ []) ≡ written (row ∷ rows) → LastShows rows → Reads width text place (row ∷ rows)
   reads_lacking row [] place h e l =
       reads_bare width text some-width place row h.0 (append_cancel_right (drop place text) (commas row) (13 ∷ 10 ∷ []) e)

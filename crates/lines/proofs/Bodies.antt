@@ -2,7 +2,7 @@
 use Rattle.std.proofs.Common.{◌≡◌, ℕ, ◌+◌, ◌<◌, ◌≤◌, true, false, cond, List, [], ◌∷◌, ◌++◌, length, get_or, take, drop, sym, refl, ap, ◌∙◌}
 use Rattle.std.proofs.lemmas.List.{at_drop_more, at_drop_all}
 use Rattle.std.proofs.lemmas.Bool.{cond-true, cond-false, cond_both}
-use Rattle.std.specs.List.{AllByRecursion as All}
+use Rattle.std.specs.List.{AllByRecursion}
 use Rattle.lines.specs.Scanning.{in_record, body, ending_of}
 use Rattle.lines.specs.Reading.{ended, record_in}
 use Rattle.lines.specs.declared.scan.Ending.{Ending}
@@ -23,12 +23,12 @@ pub body_front : (rest : List ℕ) → take (length (body rest)) rest ≡ body r
 body_front [] = refl
 body_front (b ∷ rest) = elim (in_record b) as (λ t. take (length (cond t (b ∷ body rest) [])) (b ∷ rest) ≡ cond t (b ∷ body rest) []) [ true ↦ ap (λ bs. b ∷ bs) (body_front rest) | false ↦ refl ]
 
-pub body_record : (rest : List ℕ) → All (λ b. in_record b ≡ true) (body rest)
+pub body_record : (rest : List ℕ) → AllByRecursion (λ b. in_record b ≡ true) (body rest)
 body_record [] = tt
 body_record (b ∷ rest) =
-    cond_both (in_record b) _ _ (All (λ c. in_record c ≡ true)) (λ e. (e, body_record rest)) (λ _. tt)
+    cond_both (in_record b) _ _ (AllByRecursion (λ c. in_record c ≡ true)) (λ e. (e, body_record rest)) (λ _. tt)
 
-pub body-append : (bytes behind : List ℕ) → All (λ b. in_record b ≡ true) bytes → body behind ≡ []
+pub body-append : (bytes behind : List ℕ) → AllByRecursion (λ b. in_record b ≡ true) bytes → body behind ≡ []
     → body (bytes ++ behind) ≡ bytes
 body-append [] behind h e = e
 body-append (b ∷ bytes) behind h e =

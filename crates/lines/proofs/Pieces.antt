@@ -4,7 +4,7 @@ use lib.Seq.{append_snoc, drop-append-add}
 use Rattle.std.proofs.ByRecursion.{All-append, All-push, All-weaker}
 use Rattle.std.proofs.lemmas.List.{append_assoc, append-nil, drop-drop, length_push, take_at}
 use Rattle.std.proofs.lemmas.Bool.{and_from, and_parts, cond_both, cond-false, eqb-true, not_from_false, not-true}
-use Rattle.std.specs.List.{AllByRecursion as All}
+use Rattle.std.specs.List.{AllByRecursion}
 use Rattle.lines.specs.Fields.{bytes_of, between, parted}
 use Rattle.lines.specs.Scanning.{in_record, in_field}
 use Rattle.lines.specs.Texts.{FieldBytes, Row, after_comma, commas}
@@ -48,11 +48,11 @@ commas-after (f ∷ fs) bytes e = cc
 pub commas-pieces : (bytes : List ℕ) → commas (pieces [] bytes) ≡ bytes
 commas-pieces bytes = commas-after (pieces [] bytes) bytes (after-pieces [] bytes)
 
-pub pieces_field : (front bytes : List ℕ) → FieldBytes front → All (λ b. in_record b ≡ true) bytes
-    → All FieldBytes (pieces front bytes)
+pub pieces_field : (front bytes : List ℕ) → FieldBytes front → AllByRecursion (λ b. in_record b ≡ true) bytes
+    → AllByRecursion FieldBytes (pieces front bytes)
 pieces_field front [] h k = (h, tt)
 pieces_field front (b ∷ bs) h k =
-    cond_both (eqb b 44) _ _ (All FieldBytes)
+    cond_both (eqb b 44) _ _ (AllByRecursion FieldBytes)
     (λ _. (h, pieces_field [] bs tt k.1))
     (λ e. pieces_field (front ++ (b ∷ [])) bs (All-push (λ c. in_field c ≡ true) front b h (and_from (in_record b) (not (eqb b 44)) k.0 (not_from_false (eqb b 44) e))) k.1)
 
@@ -64,7 +64,7 @@ pieces_through front (b ∷ bs) rest h =
     ∙ pieces_through (front ++ (b ∷ [])) bs rest h.1
     ∙ ap (λ xs. pieces xs rest) (append_assoc front (b ∷ []) bs)
 
-pieces-commas : (f : List ℕ) (fs : List (List ℕ)) → All FieldBytes (f ∷ fs) → pieces [] (commas (f ∷ fs)) ≡ f ∷ fs
+pieces-commas : (f : List ℕ) (fs : List (List ℕ)) → AllByRecursion FieldBytes (f ∷ fs) → pieces [] (commas (f ∷ fs)) ≡ f ∷ fs
 pieces-commas f [] h = pieces_through [] f [] h.0
 pieces-commas f (g ∷ fs) h =
     pieces_through [] f (after_comma (g ∷ fs)) h.0 ∙ ap (λ ps. f ∷ ps) (pieces-commas g fs h.1)
@@ -74,15 +74,15 @@ pub pieces_row : (width : ℕ) (fs : List (List ℕ)) → 0 < width → Row widt
 pieces_row width [] h r = absurd (omega (arith, r.0))
 pieces_row width (f ∷ fs) h r = pieces-commas f fs r.1
 
-record_bytes : (f : List ℕ) → FieldBytes f → All (λ b. in_record b ≡ true) f
+record_bytes : (f : List ℕ) → FieldBytes f → AllByRecursion (λ b. in_record b ≡ true) f
 record_bytes f h =
     All-weaker (λ b. in_field b ≡ true) (λ b. in_record b ≡ true) (λ b e. (and_parts (in_record b) (not (eqb b 44)) e).0) f h
 
-after_record : (fs : List (List ℕ)) → All FieldBytes fs → All (λ b. in_record b ≡ true) (after_comma fs)
+after_record : (fs : List (List ℕ)) → AllByRecursion FieldBytes fs → AllByRecursion (λ b. in_record b ≡ true) (after_comma fs)
 after_record [] h = tt
 after_record (f ∷ fs) h =
     (refl, All-append (λ b. in_record b ≡ true) f (after_comma fs) (record_bytes f h.0) (after_record fs h.1))
 
-pub commas_record : (fs : List (List ℕ)) → All FieldBytes fs → All (λ b. in_record b ≡ true) (commas fs)
+pub commas_record : (fs : List (List ℕ)) → AllByRecursion FieldBytes fs → AllByRecursion (λ b. in_record b ≡ true) (commas fs)
 commas_record [] h = tt
 commas_record (f ∷ fs) h = All-append (λ b. in_record b ≡ true) f (after_comma fs) (record_bytes f h.0) (after_record fs h.1)

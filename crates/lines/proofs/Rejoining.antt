@@ -2,7 +2,7 @@
 use Rattle.std.proofs.Common.{◌≡◌, ℕ, ◌≤◌, ◌⊎◌, List, [], ◌∷◌, ◌++◌, map, length, drop, sym, refl, ap, ◌∙◌, inl, inr, arith, length-drop}
 use lib.ListN.{length-map}
 use Rattle.std.proofs.lemmas.List.{append_assoc, append-nil, drop_all}
-use Rattle.std.specs.List.{AllByRecursion as All}
+use Rattle.std.specs.List.{AllByRecursion}
 use Rattle.lines.specs.declared.field.Field.{Field}
 use Rattle.lines.specs.Fields.{bytes_of}
 use Rattle.lines.specs.Scanning.{body}
@@ -59,7 +59,7 @@ module _ (width : ℕ) (text : List ℕ) (place : ℕ) (r : List Field) (behind 
       ]
 
 on_rejoins : (width : ℕ) (text : List ℕ) (place : ℕ) (rs : List (List Field)) → ReadsOn width text place rs
-    → All (Row width) (contents text rs) × Joined text place (contents text rs)
+    → AllByRecursion (Row width) (contents text rs) × Joined text place (contents text rs)
 on_rejoins width text place [] e = (tt, inl (drop_all place text (next_none width text place e)))
 on_rejoins width text place (r ∷ rs) e =
     let t = (next-taken width text place r e.0 e.1).1 in

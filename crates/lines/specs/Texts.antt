@@ -1,6 +1,6 @@
 -- A text and its records: what reading a whole text gives, and the two laws that tie it to writing one.
 use Rattle.std.specs.Prelude.{◌≡◌, ℕ, ◌<◌, ◌≤◌, true, ◌⊎◌, List, [], ◌∷◌, ◌++◌, map, length, Some, None, Ok}
-use Rattle.std.specs.List.{AllByRecursion as All}
+use Rattle.std.specs.List.{AllByRecursion}
 use Rattle.lines.specs.declared.field.Field.{Field}
 use Rattle.lines.specs.Fields.{bytes_of}
 use Rattle.lines.specs.Scanning.{in_field}
@@ -23,11 +23,11 @@ written (r ∷ rs) = commas r ++ (13 ∷ 10 ∷ written rs)
 
 -- only bytes of a field
 abbrev pub FieldBytes : List ℕ → Type 0
-FieldBytes bytes = All (λ b. in_field b ≡ true) bytes
+FieldBytes bytes = AllByRecursion (λ b. in_field b ≡ true) bytes
 
 -- the bytes of just so many fields
 abbrev pub Row : ℕ → List (List ℕ) → Type 0
-Row width fields = (length fields ≡ width) × All FieldBytes fields
+Row width fields = (length fields ≡ width) × AllByRecursion FieldBytes fields
 
 -- reading on from a place to the end of the text gives these records
 abbrev pub ReadsOn : ℕ → List ℕ → ℕ → List (List Field) → Type 0
@@ -54,12 +54,12 @@ LastShows (r ∷ (s ∷ rs)) = LastShows (s ∷ rs)
 unfoldable pub Rejoins : ℕ → ℕ → List ℕ → Type 0
 Rejoins width limit text =
     (rs : List (List Field)) → Accepted width limit text rs
-    → All (Row width) (contents text rs)
+    → AllByRecursion (Row width) (contents text rs)
     × ((text ≡ written (contents text rs)) ⊎ (text ++ (13 ∷ 10 ∷ []) ≡ written (contents text rs)))
 
 -- the text of a header and rows is accepted and gives them back, also without its last CR LF if the last row then shows: an empty line behind others does not
 unfoldable pub ReadsWritten : ℕ → ℕ → List ℕ → Type 0
 ReadsWritten width limit text =
-    (header : List (List ℕ)) (rows : List (List (List ℕ))) → 0 < width → length text ≤ limit → All (Row width) (header ∷ rows)
+    (header : List (List ℕ)) (rows : List (List (List ℕ))) → 0 < width → length text ≤ limit → AllByRecursion (Row width) (header ∷ rows)
     → (text ≡ written (header ∷ rows)) ⊎ ((text ++ (13 ∷ 10 ∷ []) ≡ written (header ∷ rows)) × LastShows rows)
     → (rs : List (List Field)) × Accepted width limit text rs × (contents text rs ≡ header ∷ rows)

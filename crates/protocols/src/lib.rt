@@ -1,4 +1,5 @@
 //! Protocols: content models over the events of a table, read from a text.
+#![tactic(auto)]
 
 mod protocol;
 

@@ -4,7 +4,7 @@ use Rattle.lines.specs.declared.field.Field.{Field}
 use Rattle.lines.specs.Fields.{bytes_of}
 use Rattle.std.proofs.lemmas.List.{get_or_past}
 use Rattle.std.proofs.lemmas.Bool.{cases_lt}
-use Rattle.std.specs.List.{AllByRecursion as All}
+use Rattle.std.specs.List.{AllByRecursion}
 use Rattle.tables.specs.declared.row.Access.{Access}
 use Rattle.tables.specs.Naming.{is_name}
 use Rattle.tables.specs.Numbering.{number_of}
@@ -17,7 +17,7 @@ use Rattle.tables.proofs.Numbers.{number_below}
 
 -- at most so many fields, each with a name
 abbrev pub Fitting : ℕ → List ℕ → List Field → Type 0
-Fitting limit text fs = (length fs ≤ limit) × All (λ f. is_name (bytes_of text f) ≡ true) fs
+Fitting limit text fs = (length fs ≤ limit) × AllByRecursion (λ f. is_name (bytes_of text f) ≡ true) fs
 
 -- what holds of the table at any time
 pub record Whole (text : List ℕ) (t : Table) : Type 0 where

@@ -9,7 +9,7 @@ use Rattle.std.proofs.ByRecursion.{All-push}
 use Rattle.std.proofs.lemmas.Slice.Eq.{bytes_eq-Decides}
 use Rattle.std.proofs.lemmas.List.{append-nil, length-append, length_push, map_push}
 use Rattle.std.proofs.lemmas.Bool.{cond_both, cond-true, cond-false, leb-false}
-use Rattle.std.specs.List.{AllByRecursion as All}
+use Rattle.std.specs.List.{AllByRecursion}
 use Rattle.std.specs.Str.{bytes_eq}
 use Rattle.tables.specs.declared.fault.NamesFault.{NamesFault}
 use Rattle.tables.specs.Numbering.{number_from, number_of, enrolled, numbered}
@@ -173,9 +173,9 @@ module _ (text : List ℕ) (names : List Field) (f : Field) (limit n : ℕ) (aft
       number_front text names x numbered_more.0 i h (ap (λ fs. number_of text fs x) (sym numbered_more.1) ∙ e)
 
   -- what holds of each name
-  pub numbered_all : (P : Field → Type 0) → P f → All P names → All P after
+  pub numbered_all : (P : Field → Type 0) → P f → AllByRecursion P names → AllByRecursion P after
   numbered_all P p all =
-      elim m.came [ inl e ↦ subst (All P) (sym e) all | inr e ↦ subst (All P) (sym e.0) (All-push P names f all p) ]
+      elim m.came [ inl e ↦ subst (AllByRecursion P) (sym e) all | inr e ↦ subst (AllByRecursion P) (sym e.0) (All-push P names f all p) ]
 
   -- a number below the count was there before, and the count is the next number
   pub numbered_old : n < length names → after ≡ names

@@ -10,7 +10,7 @@ use Rattle.ordered.proofs.Membership.{rises, holds}
 use Rattle.std.proofs.ByRecursion.{All-weaker}
 use Rattle.std.proofs.lemmas.Bool.{cond_both, cond-true, cond-false, eqb-false, le-ltb, lt-ltb}
 use Rattle.std.specs.Ordering.{ordering_reverse}
-use Rattle.std.specs.List.{AllByRecursion as All}
+use Rattle.std.specs.List.{AllByRecursion}
 use Rattle.tables.specs.declared.fault.NamesFault.{NamesFault}
 use Rattle.tables.specs.Entering.{Table}
 use Rattle.tables.specs.Heading.{headed}
@@ -78,11 +78,11 @@ module _ (table : List ℕ) (t : Table) (text : List ℕ) where
   -- what was there, and what records list
   pub record Adds (rs : List (List Field)) (xs ys : List Pair) : Type 0 where
     pub rising : Rising itself pair_order xs → Rising itself pair_order ys
-    pub within : All Within xs → All Within ys
+    pub within : AllByRecursion Within xs → AllByRecursion Within ys
     pub listed : (p q : ℕ) → p < q → Holds itself (p, q) ys ↔ (Holds itself (p, q) xs ⊎ ListsBoth table t text p q rs)
 
   record_adds : (r : List Field) (xs ys : List Pair) → add_pair table t text r xs ≡ Ok ys
-      → (Rising itself pair_order xs → Rising itself pair_order ys) × (All Within xs → All Within ys)
+      → (Rising itself pair_order xs → Rising itself pair_order ys) × (AllByRecursion Within xs → AllByRecursion Within ys)
       × ((p q : ℕ) → p < q → Holds itself (p, q) ys ↔ (Holds itself (p, q) xs ⊎ NamesBoth table t text p q r))
   record_adds r xs ys e =
       let left = and_then_made (known_in table t.processes text (get_or r 0 no_field)) _ ys e in
@@ -105,7 +105,7 @@ module _ (table : List ℕ) (t : Table) (text : List ℕ) where
       (λ (o : (left_of table t text r ≡ Some q) × (right_of table t text r ≡ Some p)). inr (some_same _ a q is-left o.0, some_same _ b p is_right o.1)) m) in (
         rises itself pair_order pairs_same pairs_converse pairs_chain (as_pair a b) xs ys put.1,
         λ w.
-            subst (All Within) (sym put.1)
+            subst (AllByRecursion Within) (sym put.1)
             (all_insert (as_pair a b) Within
             (pair_of (length t.processes) a b (known_below table t.processes text (get_or r 0 no_field) a left.1) (known_below table t.processes text (get_or r 1 no_field) b right.1) put.0) xs w),
         λ p q h. (

@@ -4,7 +4,7 @@ use Rattle.ordered.specs.Insertion.{ranked, Before, Rising, member_by}
 use Rattle.ordered.specs.Numbers.{number_order, pair_order}
 use Rattle.std.proofs.lemmas.Bool.{cases_lt, cond_both, eqb-true, eqb-false, false≢true, ltb-true, ltb-false}
 use Rattle.std.specs.Ordering.{ordering_then}
-use Rattle.std.specs.List.{AllByRecursion as All}
+use Rattle.std.specs.List.{AllByRecursion}
 use Rattle.tables.specs.Pairing.{Pair, itself, OfFew}
 
 -- what an order says of two numbers
@@ -62,13 +62,13 @@ rank_orders x y f g = go (number_order x.0 y.0) (compared x.0 y.0) (number_order
     go Greater h u k = lower y x g f h
 
 -- a rising list ends below the top
-rising_top : (x : Pair) (xs : List Pair) → Rising itself pair_order (x ∷ xs) → All OfFew (x ∷ xs) → rank x + length xs ≤ 120
+rising_top : (x : Pair) (xs : List Pair) → Rising itself pair_order (x ∷ xs) → AllByRecursion OfFew (x ∷ xs) → rank x + length xs ≤ 120
 rising_top x [] r f = omega (arith, rank_top x f.0)
 rising_top x (y ∷ ys) r f =
     let h : rank x < rank y = subst (Ranked x y) r.0 (rank_orders x y f.0 f.1.0) in
     omega (arith, rising_top y ys r.1 f.1)
 
-pub few_pairs : (xs : List Pair) → Rising itself pair_order xs → All OfFew xs → length xs ≤ 120
+pub few_pairs : (xs : List Pair) → Rising itself pair_order xs → AllByRecursion OfFew xs → length xs ≤ 120
 few_pairs [] r f = omega arith
 few_pairs (x ∷ xs) r f = omega (arith, rising_top x xs r f, f.0.0)
 
@@ -78,13 +78,13 @@ Under k [] = Unit {0}
 Under k (y ∷ ys) = k < rank y
 
 module _ (x : Pair) (f : OfFew x) where
-  new_top : (k : ℕ) (xs : List Pair) → k < rank x → Under k xs → Rising itself pair_order xs → All OfFew xs
+  new_top : (k : ℕ) (xs : List Pair) → k < rank x → Under k xs → Rising itself pair_order xs → AllByRecursion OfFew xs
       → member_by itself pair_order x xs ≡ false → k + suc (length xs) ≤ 120
   new_top k [] h u r g m = omega (arith, rank_top x f)
   new_top k (y ∷ ys) h u r g m =
       go (λ l n. new_top (rank y) ys l (under ys r.0 g.1) r.1 g.1 n) (pair_order x y) (rank_orders x y f g.0) m
     where
-      under : (zs : List Pair) → Before itself pair_order y zs → All OfFew zs → Under (rank y) zs
+      under : (zs : List Pair) → Before itself pair_order y zs → AllByRecursion OfFew zs → Under (rank y) zs
       under [] b a = tt
       under (z ∷ zs) b a = subst (Ranked y z) b (rank_orders y z g.0 a.0)
 
@@ -95,9 +95,9 @@ module _ (x : Pair) (f : OfFew x) where
       go behind Greater l n = omega (arith, behind l n)
 
   -- while a pair is new there is room for it
-  pub room_left : (xs : List Pair) → Rising itself pair_order xs → All OfFew xs → member_by itself pair_order x xs ≡ false → length xs < 120
+  pub room_left : (xs : List Pair) → Rising itself pair_order xs → AllByRecursion OfFew xs → member_by itself pair_order x xs ≡ false → length xs < 120
   room_left xs r g m = omega (arith, new_top 0 xs (omega arith) (first xs g) r g m)
     where
-      first : (zs : List Pair) → All OfFew zs → Under 0 zs
+      first : (zs : List Pair) → AllByRecursion OfFew zs → Under 0 zs
       first [] a = tt
       first (z ∷ zs) a = omega arith

@@ -4,7 +4,7 @@ use Rattle.lines.specs.declared.field.Field.{Field}
 use Rattle.lines.specs.Fields.{bytes_of}
 use Rattle.std.proofs.lemmas.Slice.Eq.{bytes_eq-Decides}
 use Rattle.std.proofs.lemmas.Bool.{cond_both, false≢true, or_cases, or_left, or_right}
-use Rattle.std.specs.List.{AllByRecursion as All}
+use Rattle.std.specs.List.{AllByRecursion}
 use Rattle.tables.specs.declared.fault.NamesFault.{NamesFault}
 use Rattle.tables.specs.declared.row.Access.{Access}
 use Rattle.tables.specs.declared.row.Access.TheVariants.{Read, Write}
@@ -95,7 +95,7 @@ module _ (text : List ℕ) where
 
   pub records_added : (rs : List (List Field)) (t u : Table) → Whole text t → add_all (add_record text) rs t ≡ Ok u
       → Adds text t u (map (event_in text) rs) (map (process_in text) rs) (all_cells text rs) (λ a x y. Lists text a x y rs)
-      × All (λ r. Ran text u (event_in text r) (process_in text r)) rs
+      × AllByRecursion (λ r. Ran text u (event_in text r) (process_in text r)) rs
   records_added [] t u w e =
       (subst (λ v. Adds text t v [] [] [] Nothing) (ok_same t u e) (adds_none text t [] [] [] Nothing w refl refl refl (λ a x y l. l)), tt)
   records_added (r ∷ rs) t u w e =

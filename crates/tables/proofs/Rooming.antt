@@ -7,7 +7,7 @@ use Rattle.ordered.specs.Lists.{members, spare, admitted, answer}
 use Rattle.ordered.specs.Numbers.{pair_order}
 use Rattle.std.proofs.lemmas.List.{length-drop}
 use Rattle.std.proofs.lemmas.Bool.{cases_lt, cond_both, cond-true, cond-false, false≢true, ltb-true, ltb-false, ne_eqb}
-use Rattle.std.specs.List.{AllByRecursion as All}
+use Rattle.std.specs.List.{AllByRecursion}
 use Rattle.tables.specs.declared.fault.NamesFault.{NamesFault}
 use Rattle.tables.specs.declared.fault.NamesFault.TheVariants.{Again}
 use Rattle.tables.specs.Pairing.{Pair, itself, as_pair, with_pair, OfFew, Roomy}
@@ -29,10 +29,10 @@ module _ (x : Pair) where
       ranked o false true (member_by itself pair_order x ys) ≡ false → length (ranked o (x ∷ (y ∷ ys)) (y ∷ ys) (y ∷ insert_by itself pair_order x ys)) ≡ suc (suc (length ys)))
       [ Less ↦ λ e. refl | Equal ↦ λ e. absurd (false≢true (sym e)) | Greater ↦ λ e. ap suc (insert_new ys e) ]) m
 
-  pub all_insert : (P : Pair → Type 0) → P x → (xs : List Pair) → All P xs → All P (insert_by itself pair_order x xs)
+  pub all_insert : (P : Pair → Type 0) → P x → (xs : List Pair) → AllByRecursion P xs → AllByRecursion P (insert_by itself pair_order x xs)
   all_insert P p [] a = (p, tt)
   all_insert P p (y ∷ ys) a =
-      elim (pair_order x y) as (λ o. All P (ranked o (x ∷ (y ∷ ys)) (y ∷ ys) (y ∷ insert_by itself pair_order x ys)))
+      elim (pair_order x y) as (λ o. AllByRecursion P (ranked o (x ∷ (y ∷ ys)) (y ∷ ys) (y ∷ insert_by itself pair_order x ys)))
       [ Less ↦ (p, a) | Equal ↦ a | Greater ↦ (a.0, all_insert P p ys a.1) ]
 
 -- two processes make a pair
@@ -96,7 +96,7 @@ module _ (l : OrderedList Pair) (w : Roomy l) (p q : ℕ) (h : p < 16) (k : q < 
           let left = s ∙ ap (λ (v : Bool). drop (cond v 1 0) (spare l)) new in
           record {
             rising = r;
-            few = subst (All OfFew) (sym put) (all_insert x OfFew few_pair (members l) w.few);
+            few = subst (AllByRecursion OfFew) (sym put) (all_insert x OfFew few_pair (members l) w.few);
             room =
                 omega (arith, ap length put, insert_new x (members l) is_new.0, ap length left, length-drop 1 (spare l), is_new.1, w.room);
           }
@@ -114,6 +114,6 @@ module _ (l : OrderedList Pair) (w : Roomy l) (p q : ℕ) (h : p < 16) (k : q < 
           let left = s ∙ ap (λ (v : Bool). drop (cond v 1 0) (spare l)) old in
           record {
             rising = r;
-            few = subst (All OfFew) (sym same) w.few;
+            few = subst (AllByRecursion OfFew) (sym same) w.few;
             room = omega (arith, ap length same, ap length left, w.room);
           }

@@ -8,7 +8,7 @@ use Rattle.lines.proofs.Forward.{opened_width}
 use Rattle.std.proofs.ByRecursion.{All-get_or, All-weaker}
 use Rattle.std.proofs.lemmas.List.{get_or-map, length-map}
 use Rattle.std.proofs.lemmas.Bool.{cond_both}
-use Rattle.std.specs.List.{AllByRecursion as All}
+use Rattle.std.specs.List.{AllByRecursion}
 use Rattle.std.specs.Str.{bytes_eq}
 use Rattle.tables.specs.declared.fault.NamesFault.{NamesFault}
 use Rattle.tables.specs.declared.row.Access.{Access}
@@ -57,7 +57,7 @@ none_listed text a x y l = empty_lists a l.c 0 l.lists
 
 module _ (text : List ℕ) (rs : List (List Field)) (t : Table) (e : add_all (add_record text) rs no_entries ≡ Ok t) where
   added : Adds text no_entries t (map (event_in text) rs) (map (process_in text) rs) (all_cells text rs) (λ a x y. Lists text a x y rs)
-      × All (λ r. Ran text t (event_in text r) (process_in text r)) rs
+      × AllByRecursion (λ r. Ran text t (event_in text r) (process_in text r)) rs
   added = records_added text rs no_entries t (none_whole text) e
 
   events_numbered : Numbers 64 text (map (event_in text) rs) t.events

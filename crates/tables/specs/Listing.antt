@@ -5,7 +5,7 @@ use Rattle.lines.specs.Fields.{bytes_of}
 use Rattle.lines.specs.Texts.{Accepted}
 use Rattle.ordered.specs.Insertion.{Holds, Rising}
 use Rattle.ordered.specs.Numbers.{pair_order}
-use Rattle.std.specs.List.{AllByRecursion as All}
+use Rattle.std.specs.List.{AllByRecursion}
 use Rattle.tables.specs.Entering.{Table}
 use Rattle.tables.specs.Numbering.{no_field, number_of}
 use Rattle.tables.specs.Pairing.{Pair, itself}
@@ -34,7 +34,7 @@ module _ (table : List ℕ) (t : Table) (text : List ℕ) where
     -- each once, in rising order
     pub rising : Rising itself pair_order pairs
     -- of two processes of the table, the lower number first
-    pub within : All (λ x. (x.0 < x.1) × (x.1 < length t.processes)) pairs
+    pub within : AllByRecursion (λ x. (x.0 < x.1) × (x.1 < length t.processes)) pairs
     -- just those that a record lists
     pub listed : (p q : ℕ) → p < q → Holds itself (p, q) pairs ↔ ListsBoth p q rs
     pub few : length pairs ≤ 120

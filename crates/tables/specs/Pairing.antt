@@ -7,7 +7,7 @@ use Rattle.ordered.specs.declared.list.OrderedList.{OrderedList}
 use Rattle.ordered.specs.Insertion.{Rising, member_by, insert_by}
 use Rattle.ordered.specs.Lists.{members, spare}
 use Rattle.ordered.specs.Numbers.{pair_order}
-use Rattle.std.specs.List.{AllByRecursion as All}
+use Rattle.std.specs.List.{AllByRecursion}
 use Rattle.tables.specs.declared.fault.ApartFault.{ApartFault}
 use Rattle.tables.specs.declared.fault.ApartFault.TheVariants.{Names, ShortStore}
 use Rattle.tables.specs.declared.fault.NamesFault.{NamesFault}
@@ -84,5 +84,5 @@ OfFew x = (x.0 < x.1) × (x.1 < 16)
 -- a list of such pairs over a store that has a place for each there is
 pub record Roomy (l : OrderedList Pair) : Type 0 where
   pub rising : Rising itself pair_order (members l)
-  pub few : All OfFew (members l)
+  pub few : AllByRecursion OfFew (members l)
   pub room : length (members l) + length (spare l) ≡ 120

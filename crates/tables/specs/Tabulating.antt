@@ -3,7 +3,7 @@ use Rattle.std.specs.Prelude.{◌≡◌, ℕ, ◌<◌, ◌≤◌, Bool, true, fa
 use Rattle.lines.specs.declared.field.Field.{Field}
 use Rattle.lines.specs.Fields.{bytes_of}
 use Rattle.lines.specs.Texts.{Accepted}
-use Rattle.std.specs.List.{flat_map, AllByRecursion as All}
+use Rattle.std.specs.List.{flat_map, AllByRecursion}
 use Rattle.std.specs.Str.{bytes_eq}
 use Rattle.tables.specs.declared.row.Access.{Access}
 use Rattle.tables.specs.declared.row.Access.TheVariants.{Read, Write}
@@ -52,7 +52,7 @@ firsts xs = fold with_name [] xs
 
 -- every record of the event names the process
 abbrev pub Runs : List ℕ → List ℕ → List ℕ → List (List Field) → Type 0
-Runs text event process rs = All (λ r. event_in text r ≡ event → process_in text r ≡ process) rs
+Runs text event process rs = AllByRecursion (λ r. event_in text r ≡ event → process_in text r ≡ process) rs
 
 -- some record of the event lists the cell
 abbrev pub Lists : List ℕ → Access → List ℕ → List ℕ → List (List Field) → Type 0

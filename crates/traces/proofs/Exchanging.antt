@@ -1,7 +1,7 @@
 -- An event that exchanges bring to the front of a word, and the rest of the word.
 use Rattle.std.proofs.Common.{◌≡◌, ℕ, true, ◌⊎◌, [], ◌∷◌, ◌++◌, sym, refl, ap, ◌∙◌, subst, ap₂, inl, inr}
 use mathlib.Core.Bool.{false≢true}
-use Rattle.std.specs.List.{AllByRecursion as All}
+use Rattle.std.specs.List.{AllByRecursion}
 use Rattle.traces.specs.Words.{Word, Rel, never, Independent}
 use Rattle.traces.specs.Expressions.{Matches}
 use Rattle.traces.specs.Exchanges.{Exchange, Exchanges, unchanged, exchanged}
@@ -45,15 +45,15 @@ closure_never E w =
     (λ c. subst (λ u. Matches E u) (sym (no_exchange w c.0 c.1)) c.2, λ i. (w, unchanged refl, i))
 
 -- what holds of every event of a word holds of every event before the exchanges
-all_exchange : (P : ℕ → Type 0) (a b : ℕ) (p q : Word) → All P (p ++ (b ∷ a ∷ q)) → All P (p ++ (a ∷ b ∷ q))
+all_exchange : (P : ℕ → Type 0) (a b : ℕ) (p q : Word) → AllByRecursion P (p ++ (b ∷ a ∷ q)) → AllByRecursion P (p ++ (a ∷ b ∷ q))
 all_exchange P a b [] q h = (h.1.0, (h.0, h.1.1))
 all_exchange P a b (c ∷ p) q h = (h.0, all_exchange P a b p q h.1)
 
-pub all_exchanges : (P : ℕ → Type 0) (rel : Rel) (u v : Word) → Exchanges rel u v → All P v → All P u
-all_exchanges P rel u v (unchanged e) h = subst (λ t. All P t) (sym e) h
+pub all_exchanges : (P : ℕ → Type 0) (rel : Rel) (u v : Word) → Exchanges rel u v → AllByRecursion P v → AllByRecursion P u
+all_exchanges P rel u v (unchanged e) h = subst (λ t. AllByRecursion P t) (sym e) h
 all_exchanges P rel u v (exchanged {v = t} x xs) h =
-    subst (λ s. All P s) (sym x.4)
-    (all_exchange P x.1 x.2 x.0 x.3 (subst (λ s. All P s) x.5 (all_exchanges P rel t v xs h)))
+    subst (λ s. AllByRecursion P s) (sym x.4)
+    (all_exchange P x.1 x.2 x.0 x.3 (subst (λ s. AllByRecursion P s) x.5 (all_exchanges P rel t v xs h)))
 
 -- ── an event taken out ──
 

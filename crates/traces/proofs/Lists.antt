@@ -1,7 +1,7 @@
 -- Members of joined and mapped lists, and what holds of every element of a joined list.
 use Rattle.std.proofs.Common.{◌≡◌, ◌⊎◌, List, [], ◌∷◌, ◌++◌, map, sym, refl, ap, inl, inr}
 use mathlib.Core.List.{nil≢cons}
-use Rattle.std.specs.List.{AllByRecursion as All}
+use Rattle.std.specs.List.{AllByRecursion}
 use Rattle.traces.specs.Members.{Member, Any}
 
 module _ {A : Type 0} where
@@ -33,11 +33,11 @@ module _ {A : Type 0} where
   any_either P xs ys s =
       elim (member_either s.0 xs ys s.1) [ inl m ↦ inl (s.0, m, s.2) | inr m ↦ inr (s.0, m, s.2) ]
 
-  pub all_left : (P : A → Type 0) (xs ys : List A) → All P (xs ++ ys) → All P xs
+  pub all_left : (P : A → Type 0) (xs ys : List A) → AllByRecursion P (xs ++ ys) → AllByRecursion P xs
   all_left P [] ys h = tt
   all_left P (x ∷ xs) ys h = (h.0, all_left P xs ys h.1)
 
-  pub all_right : (P : A → Type 0) (xs ys : List A) → All P (xs ++ ys) → All P ys
+  pub all_right : (P : A → Type 0) (xs ys : List A) → AllByRecursion P (xs ++ ys) → AllByRecursion P ys
   all_right P [] ys h = h
   all_right P (x ∷ xs) ys h = all_right P xs ys h.1
 

@@ -2,7 +2,7 @@
 use Rattle.std.proofs.Common.{◌≡◌, ℕ, Bool, true, false, cond, ◌↔◌, [], ◌∷◌, ◌++◌, sym, refl, ap, ◌∙◌, subst, inl, inr, append_assoc, append-nil}
 use mathlib.Core.Bool.{false≢true}
 use mathlib.Core.Logic.Iff
-use Rattle.std.specs.List.{AllByRecursion as All}
+use Rattle.std.specs.List.{AllByRecursion}
 use Rattle.std.proofs.ByRecursion.{All-append}
 use Rattle.std.proofs.lemmas.Bool.{and_parts, and_from, or_cases, eqb-true, eq-eqb}
 use Rattle.traces.specs.Words.{Word}
@@ -200,7 +200,7 @@ star_words (star A) w = (λ r. more w [] (sym (append-nil w)) r (done refl), sta
 module _ (p : ℕ → Bool) where
   -- every event of the word passes the test
   abbrev Passes : Word → Type 0
-  Passes w = All (λ b. p b ≡ true) w
+  Passes w = AllByRecursion (λ b. p b ≡ true) w
 
   event_restricted : (b : ℕ) (w : Word) (c : Bool) → p b ≡ c → Matches (cond c (event b) zero) w ↔ ((w ≡ b ∷ []) × Passes w)
   event_restricted b w true e = (λ i. (i, subst Passes (sym i) (e, tt)), λ h. h.0)
@@ -263,7 +263,7 @@ module _ (p : ℕ → Bool) where
 pub keep_words : KeepWords
 keep_words rel a E w = restrict_words (rel a) E w
 
-always : (w : Word) → All (λ b. true ≡ true) w
+always : (w : Word) → AllByRecursion (λ b. true ≡ true) w
 always [] = tt
 always (b ∷ w) = (refl, always w)
 
