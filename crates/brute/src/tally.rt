@@ -4,7 +4,7 @@ use crate::plain::is_word;
 use anyhow::anyhow;
 use expressions::Expr;
 use sets::{SetRefusal, any_nullable, next_set};
-use std::alloc::{AllocError, Global};
+use std::alloc::Global;
 
 /// How often a word was in the closure of an expression, or a word of it, and how the sets decided.
 #[derive(Clone, Copy, Default)]

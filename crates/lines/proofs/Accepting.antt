@@ -11,7 +11,7 @@ use Rattle.lines.specs.Scanning.{body, ending_of}
 use Rattle.lines.specs.Reading.{ended, record_at, record_in, some, next_record}
 use Rattle.lines.specs.Texts.{Row, commas, written, ReadsOn, Accepted, contents, LastShows, ReadsWritten}
 use Rattle.lines.proofs.Bodies.{body-append}
-use Rattle.lines.proofs.Pieces.{bytes_parted, commas_record, drop-behind, pieces_row}
+use Rattle.lines.proofs.Pieces.{bytes_parted, commas_record, drop_behind, pieces_row}
 
 -- a row that stands at a place of the text, with the bytes behind it
 module _ (width : ℕ) (text : List ℕ) (some-width : 0 < width) (place : ℕ) (row : List (List ℕ)) (of_row : Row width row) (tail : List ℕ) (stands : drop place text ≡ commas row ++ tail) where
@@ -50,7 +50,7 @@ reads_accepted width limit text rows h r =
 line_behind : (text : List ℕ) (place : ℕ) (bytes tail : List ℕ) → drop place text ≡ bytes ++ (13 ∷ 10 ∷ tail)
     → drop (place + length bytes + 2) text ≡ tail
 line_behind text place bytes tail e =
-    ap (λ k. drop k text) (add_assoc place (length bytes) 2) ∙ drop-behind text bytes (13 ∷ 10 ∷ tail) place 2 e
+    ap (λ k. drop k text) (add_assoc place (length bytes) 2) ∙ drop_behind text bytes (13 ∷ 10 ∷ tail) place 2 e
 
 -- a row at the end of the text, and one with CR LF behind it
 module _ (width : ℕ) (text : List ℕ) (some-width : 0 < width) (place : ℕ) (row : List (List ℕ)) (of_row : Row width row) where

@@ -6,10 +6,10 @@ use Rattle.lines.specs.declared.field.Field.{Field}
 use Rattle.lines.specs.Fields.{between, parted, exactly}
 
 -- there is a field at the least
-pub parted-some : (separator start at : ℕ) (bytes : List ℕ) → 1 ≤ length (parted separator start at bytes)
-parted-some separator start at [] = omega arith
-parted-some separator start at (b ∷ bs) =
-    cond_both (eqb b separator) _ _ (λ (fs : List Field). 1 ≤ length fs) (λ _. omega arith) (λ _. parted-some separator start (at + 1) bs)
+pub parted_some : (separator start at : ℕ) (bytes : List ℕ) → 1 ≤ length (parted separator start at bytes)
+parted_some separator start at [] = omega arith
+parted_some separator start at (b ∷ bs) =
+    cond_both (eqb b separator) _ _ (λ (fs : List Field). 1 ≤ length fs) (λ _. omega arith) (λ _. parted_some separator start (at + 1) bs)
 
 module _ (separator start place : ℕ) (bytes : List ℕ) (i : ℕ) where
   pub parted_here : i < length bytes → get_or bytes i 0 ≡ separator
@@ -30,8 +30,8 @@ module _ (separator start place : ℕ) (bytes : List ℕ) (i : ℕ) where
   pub parted_last : length bytes ≤ i → parted separator start (place + i) (drop i bytes) ≡ between start (place + i) ∷ []
   parted_last h = at_drop_all (parted separator start (place + i)) bytes i h
 
-pub length-joined : (xs ys zs : List Field) (n : ℕ) → n ≤ length xs → take n xs ++ ys ≡ zs → length zs ≡ n + length ys
-length-joined xs ys zs n h e =
+pub length_joined : (xs ys zs : List Field) (n : ℕ) → n ≤ length xs → take n xs ++ ys ≡ zs → length zs ≡ n + length ys
+length_joined xs ys zs n h e =
     ap length (sym e) ∙ length-append (take n xs) ys ∙ ap (λ k. k + length ys) (length-take-le n xs h)
 
 -- a list one longer, with y put at its first free index

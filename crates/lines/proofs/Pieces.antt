@@ -14,9 +14,9 @@ abbrev pub pieces : List ℕ → List ℕ → List (List ℕ)
 pieces front [] = front ∷ []
 pieces front (b ∷ bs) = cond (eqb b 44) (front ∷ pieces [] bs) (pieces (front ++ (b ∷ [])) bs)
 
-pub drop-behind : (text front tail : List ℕ) (start n : ℕ) → drop start text ≡ front ++ tail
+pub drop_behind : (text front tail : List ℕ) (start n : ℕ) → drop start text ≡ front ++ tail
     → drop (start + (length front + n)) text ≡ drop n tail
-drop-behind text front tail start n e =
+drop_behind text front tail start n e =
     sym (drop-drop (length front + n) start text) ∙ ap (drop (length front + n)) e ∙ drop-append-add front tail n
 
 -- the fields hold the pieces
@@ -28,25 +28,25 @@ bytes_parted text front (b ∷ bs) tail start at e a =
     let first : bytes_of text (between start at) ≡ front = ap (take (at - start)) e ∙ take_at front (b ∷ (bs ++ tail)) (at - start) (omega arith) in
     let place : at + 1 ≡ start + (length front + 1) = omega arith in
     let next : map (bytes_of text) (parted 44 (at + 1) (at + 1) bs) ≡ pieces [] bs =
-    bytes_parted text [] bs tail (at + 1) (at + 1) (ap (λ k. drop k text) place ∙ drop-behind text front (b ∷ (bs ++ tail)) start 1 e) (omega arith) in
+    bytes_parted text [] bs tail (at + 1) (at + 1) (ap (λ k. drop k text) place ∙ drop_behind text front (b ∷ (bs ++ tail)) start 1 e) (omega arith) in
     let on : map (bytes_of text) (parted 44 start (at + 1) bs) ≡ pieces (front ++ (b ∷ [])) bs =
     bytes_parted text (front ++ (b ∷ [])) bs tail start (at + 1) (e ∙ sym (append_snoc front b (bs ++ tail))) (omega (arith, length_push front b)) in
     elim (eqb b 44) as (λ t. map (bytes_of text) (cond t (between start at ∷ parted 44 (at + 1) (at + 1) bs) (parted 44 start (at + 1) bs)) ≡ cond t (front ∷ pieces [] bs) (pieces (front ++ (b ∷ [])) bs)) [ true ↦ cc | false ↦ on ]
 
-after-pieces : (front bytes : List ℕ) → after_comma (pieces front bytes) ≡ 44 ∷ (front ++ bytes)
-after-pieces front [] = refl
-after-pieces front (b ∷ bs) =
+after_pieces : (front bytes : List ℕ) → after_comma (pieces front bytes) ≡ 44 ∷ (front ++ bytes)
+after_pieces front [] = refl
+after_pieces front (b ∷ bs) =
     cond_both (eqb b 44) _ _ (λ fs. after_comma fs ≡ 44 ∷ (front ++ (b ∷ bs)))
-    (λ e. ap (λ xs. 44 ∷ (front ++ xs)) (after-pieces [] bs ∙ ap (λ k. k ∷ bs) (sym (eqb-true b 44 e))))
-    (λ _. after-pieces (front ++ (b ∷ [])) bs ∙ ap (λ xs. 44 ∷ xs) (append_snoc front b bs))
+    (λ e. ap (λ xs. 44 ∷ (front ++ xs)) (after_pieces [] bs ∙ ap (λ k. k ∷ bs) (sym (eqb-true b 44 e))))
+    (λ _. after_pieces (front ++ (b ∷ [])) bs ∙ ap (λ xs. 44 ∷ xs) (append_snoc front b bs))
 
-commas-after : (fs : List (List ℕ)) (bytes : List ℕ) → after_comma fs ≡ 44 ∷ bytes → commas fs ≡ bytes
-commas-after [] bytes e = cc
-commas-after (f ∷ fs) bytes e = cc
+commas_after : (fs : List (List ℕ)) (bytes : List ℕ) → after_comma fs ≡ 44 ∷ bytes → commas fs ≡ bytes
+commas_after [] bytes e = cc
+commas_after (f ∷ fs) bytes e = cc
 
 -- commas join the pieces to the bytes again
 pub commas-pieces : (bytes : List ℕ) → commas (pieces [] bytes) ≡ bytes
-commas-pieces bytes = commas-after (pieces [] bytes) bytes (after-pieces [] bytes)
+commas-pieces bytes = commas_after (pieces [] bytes) bytes (after_pieces [] bytes)
 
 pub pieces_field : (front bytes : List ℕ) → FieldBytes front → AllByRecursion (λ b. in_record b ≡ true) bytes
     → AllByRecursion FieldBytes (pieces front bytes)

@@ -11,7 +11,7 @@ use Rattle.lines.specs.Scanning.{body, ending_of}
 use Rattle.lines.specs.Reading.{counted_as, ended, record_at, opened, some, next_record}
 use Rattle.lines.proofs.Bodies.{body_front}
 use Rattle.lines.proofs.Endings.{text_ends, line_ends}
-use Rattle.lines.proofs.Pieces.{drop-behind}
+use Rattle.lines.proofs.Pieces.{drop_behind}
 
 -- a record with its own bytes, which the end of the text or CR LF follows
 pub record Taken (width : ℕ) (text : List ℕ) (place : ℕ) (r : List Field) (behind : ℕ) : Type 0 where
@@ -21,9 +21,9 @@ pub record Taken (width : ℕ) (text : List ℕ) (place : ℕ) (r : List Field) 
       ⊎ ((drop place text ≡ body (drop place text) ++ (13 ∷ 10 ∷ drop behind text)) × (behind ≡ place + (length (body (drop place text)) + 2)))
 
 -- a counted record has the width
-counted-taken : (width place : ℕ) (bytes : List ℕ) (next behind : ℕ) (r : List Field) → counted_as width place bytes next ≡ Ok (r, behind)
+counted_taken : (width place : ℕ) (bytes : List ℕ) (next behind : ℕ) (r : List Field) → counted_as width place bytes next ≡ Ok (r, behind)
     → (length (fields_at place bytes) ≡ width) × (fields_at place bytes ≡ r) × (next ≡ behind)
-counted-taken width place bytes next behind r =
+counted_taken width place bytes next behind r =
     cond_both (eqb (length (fields_at place bytes)) width) _ _
     (λ (x : Result (List Field × ℕ) LinesFault). x ≡ Ok (r, behind) → (length (fields_at place bytes) ≡ width) × (fields_at place bytes ≡ r) × (next ≡ behind))
     (λ t e. let same : ◌≡◌ {A = List Field × ℕ} (fields_at place bytes, next) (r, behind) = cc in (eqb-true (length (fields_at place bytes)) width t, ap (λ p. p.0) same, ap (λ p. p.1) same))
@@ -38,7 +38,7 @@ module _ (width : ℕ) (text : List ℕ) (place : ℕ) (r : List Field) (behind 
   by_ending : (e : Ending) → ending_of (drop (length (body (drop place text))) (drop place text)) ≡ e
       → ended width place (body (drop place text)) e ≡ Ok (r, behind) → Taken width text place r behind
   by_ending Text e q =
-      let k = counted-taken width place (body (drop place text)) (place + length (body (drop place text))) behind r q in
+      let k = counted_taken width place (body (drop place text)) (place + length (body (drop place text))) behind r q in
       let none = text_ends (drop (length (body (drop place text))) (drop place text)) e in
       record {
         fields = k.1;
@@ -46,10 +46,10 @@ module _ (width : ℕ) (text : List ℕ) (place : ℕ) (r : List Field) (behind 
         ends = inl (front ∙ ap (λ bs. body (drop place text) ++ bs) none ∙ append-nil (body (drop place text)), sym k.2);
       }
   by_ending Line e q =
-      let k = counted-taken width place (body (drop place text)) (place + length (body (drop place text)) + 2) behind r q in
+      let k = counted_taken width place (body (drop place text)) (place + length (body (drop place text)) + 2) behind r q in
       let line = line_ends (drop (length (body (drop place text))) (drop place text)) e in
       let at : behind ≡ place + (length (body (drop place text)) + 2) = omega (arith, k.2) in
-      let rest = drop-behind text (body (drop place text)) (drop (length (body (drop place text))) (drop place text)) place 2 front in
+      let rest = drop_behind text (body (drop place text)) (drop (length (body (drop place text))) (drop place text)) place 2 front in
       record {
         fields = k.1;
         count = ap length (sym k.1) ∙ k.0;
@@ -65,8 +65,8 @@ module _ (width : ℕ) (text : List ℕ) (place : ℕ) (r : List Field) (behind 
   some_ok (Ok read) e = cc
   some_ok (Err f) e = cc
 
-  pub next-taken : next_record width text place ≡ Ok (Some (r, behind)) → (place < length text) × Taken width text place r behind
-  next-taken =
+  pub next_taken : next_record width text place ≡ Ok (Some (r, behind)) → (place < length text) × Taken width text place r behind
+  next_taken =
       cond_both (leb (length text) place) _ _
       (λ x. x ≡ Ok (Some (r, behind)) → (place < length text) × Taken width text place r behind)
       (λ _ e. let z : ◌≡◌ {A = ℕ} 0 1 = cc in absurd (omega arith))
@@ -83,9 +83,9 @@ next_none width text place =
     (λ t _. leb-true (length text) place t)
     (λ _ e. absurd (not_none (record_at width text place) e))
 
-pub opened-taken : (width limit : ℕ) (text : List ℕ) (r : List Field) (behind : ℕ) → opened width limit text ≡ Ok (r, behind)
+pub opened_taken : (width limit : ℕ) (text : List ℕ) (r : List Field) (behind : ℕ) → opened width limit text ≡ Ok (r, behind)
     → (length text ≤ limit) × Taken width text 0 r behind
-opened-taken width limit text r behind =
+opened_taken width limit text r behind =
     cond_both (ltb limit (length text)) _ _
     (λ x. x ≡ Ok (r, behind) → (length text ≤ limit) × Taken width text 0 r behind)
     (λ _ e. let z : ◌≡◌ {A = ℕ} 0 1 = cc in absurd (omega arith))

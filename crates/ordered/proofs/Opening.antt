@@ -38,5 +38,5 @@ module _ {A : Type 0} (s : List A) (n p : ℕ) (x : A) (lt : n < length s) (le :
         ∙ ap (λ (u : List A). u ++ r) (take-set-le p s n x le ∙ sym (take-take p n s le))
         ∙ ap (λ (u : List A). take p (take n s) ++ u) e
 
-    pub opened-rest : drop (n + 1) (put_mid p (n + 1 - p) (set s n x) r) ≡ drop (n + 1) s
-    opened-rest = drop-put_mid p (n + 1 - p) (set s n x) r (n + 1) (omega arith) inside size ∙ drop-set-lt (n + 1) s n x (omega arith)
+    pub opened_rest : drop (n + 1) (put_mid p (n + 1 - p) (set s n x) r) ≡ drop (n + 1) s
+    opened_rest = drop-put_mid p (n + 1 - p) (set s n x) r (n + 1) (omega arith) inside size ∙ drop-set-lt (n + 1) s n x (omega arith)

@@ -35,8 +35,8 @@ known : (E : Exp) (Es : List Exp) → is_member E Es ≡ true → Member E Es
 known E Es h =
     let s = (some_decides (equal E) Es).0 h in subst (λ F. Member F Es) (sym ((equal_decides E s.0).0 s.2)) s.1
 
-append-members : (E : Exp) (Es : List Exp) (F : Exp) → Member F (append E Es) ↔ (Member F Es ⊎ (F ≡ E))
-append-members E Es F = go (is_member E Es) refl
+append_members : (E : Exp) (Es : List Exp) (F : Exp) → Member F (append E Es) ↔ (Member F Es ⊎ (F ≡ E))
+append_members E Es F = go (is_member E Es) refl
   where
     go : (b : Bool) → is_member E Es ≡ b → Member F (cond b Es (Es ++ E ∷ [])) ↔ (Member F Es ⊎ (F ≡ E))
     go true e = (inl, ⊎_elim (λ m. m) (λ q. subst (λ G. Member G Es) (sym q) (known E Es e)))
@@ -48,7 +48,7 @@ append-members E Es F = go (is_member E Es) refl
 each_members : (Fs Es : List Exp) (F : Exp) → Member F (append_each Fs Es) ↔ (Member F Es ⊎ Member F Fs)
 each_members [] Es F = (inl, ⊎_elim (λ m. m) absurd)
 each_members (G ∷ Fs) Es F =
-    let one = append-members G Es F in
+    let one = append_members G Es F in
     let more = each_members Fs (append G Es) F in (
       λ m. ⊎_elim (λ k. ⊎_elim inl (λ q. inr (inl q)) (one.0 k)) (λ k. inr (inr k)) (more.0 m),
       ⊎_elim (λ k. more.1 (inl (one.1 (inl k)))) (⊎_elim (λ q. more.1 (inl (one.1 (inr q)))) (λ k. more.1 (inr k))),

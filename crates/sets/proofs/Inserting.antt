@@ -6,9 +6,9 @@ use Rattle.ordered.specs.declared.full.Full.{Full}
 use Rattle.ordered.specs.declared.list.OrderedList.{OrderedList}
 
 module _ {A C : Type 0} (content : A → C) (order : C → C → Ordering) where
-  insert-known : (x : A) (xs : List A) → member_by content order x xs ≡ true → insert_by content order x xs ≡ xs
-  insert-known x [] m = cc
-  insert-known x (y ∷ ys) m = go (order (content x) (content y)) (insert-known x ys) m
+  insert_known : (x : A) (xs : List A) → member_by content order x xs ≡ true → insert_by content order x xs ≡ xs
+  insert_known x [] m = cc
+  insert_known x (y ∷ ys) m = go (order (content x) (content y)) (insert_known x ys) m
     where
       go : (o : Ordering) → (member_by content order x ys ≡ true → insert_by content order x ys ≡ ys)
           → ranked o false true (member_by content order x ys) ≡ true
@@ -51,7 +51,7 @@ module _ {A C : Type 0} (content : A → C) (order : C → C → Ordering) where
         go : (m : Bool) → member_by content order x (members l) ≡ m → (free : List A) → Ok new ≡ cond m (Ok false) (admitted free)
             → length (insert_by content order x (members l)) + length (drop (cond new 1 0) free) ≡ length (members l) + length free
         go true m free k =
-            let known : new ≡ false = cc in rw (known, insert-known x (members l) m) refl
+            let known : new ≡ false = cc in rw (known, insert_known x (members l) m) refl
         go false m [] k = let no : ◌≡◌ {A = ℕ} 0 1 = cc in omega arith
         go false m (y ∷ free) k =
             let fresh : new ≡ true = cc in rw (fresh, insert_new x (members l) m) (omega arith)

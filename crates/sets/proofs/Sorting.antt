@@ -13,8 +13,8 @@ use Rattle.traces.specs.Order.{symbols, order}
 use Rattle.traces.specs.Derivatives.{next}
 use Rattle.traces.proofs.Lists.{member_unmap}
 use Rattle.traces.proofs.Events.{events_stay_below}
-use Rattle.traces.proofs.Ordering.{order_total, order-equal}
-use Rattle.traces.proofs.Sets.{next-out}
+use Rattle.traces.proofs.Ordering.{order_total, order_equal}
+use Rattle.traces.proofs.Sets.{next_out}
 use Rattle.expressions.specs.Model.{model, models}
 use Rattle.sets.specs.Sets.{insert, insert_each, sorted, precedes, rises, SameMembers}
 use Rattle.expressions.specs.declared.expr.Expr.{Expr}
@@ -74,11 +74,11 @@ sorted_same Es below = (within, λ E m. back E m (holds_member (symbols E) (sort
     back : (E : Exp) → Member E Es → Any (λ F. symbols F ≡ symbols E) (sorted Es) → Member E (sorted Es)
     back E m s =
         let like : order s.0 E ≡ Equal = ap (λ t. slice_cmp nat_cmp t (symbols E)) s.2 ∙ order_total.0 E in
-        subst (λ F. Member F (sorted Es)) (order-equal.1 s.0 E (below s.0 (within s.0 s.1)) (below E m) like) s.1
+        subst (λ F. Member F (sorted Es)) (order_equal.1 s.0 E (below s.0 (within s.0 s.1)) (below E m) like) s.1
 
 next_below : (rel : Rel) (a : ℕ) (es : List Expr) (F : Exp) → Member F (next rel a (models es)) → EventsBelow 64 F
 next_below rel a es F m =
-    let s = next-out rel a F (models es) m in
+    let s = next_out rel a F (models es) m in
     let e = member_unmap model s.0 es s.1 in
     events_stay_below.5 64 rel a s.0 F (subst (EventsBelow 64) (sym e.2) (events_below e.0)) s.2
 

@@ -1,5 +1,5 @@
 -- Sets of expressions, kept as lists in the order of the prefix forms.
-use Rattle.std.specs.Prelude.{Bool, true, ◌&&◌, ◌||◌, ltb, List, [], ◌∷◌, length, nat_lt}
+use Rattle.std.specs.Prelude.{Bool, true, ◌&&◌, ◌||◌, List, [], ◌∷◌, length, nat_lt}
 use Rattle.std.specs.Cmp.Lexicographic.{slice_cmp}
 use Rattle.std.specs.Ordering.{is_lt, nat_cmp}
 use Rattle.ordered.specs.Insertion.{insert_by, insert_all}
@@ -32,7 +32,7 @@ rises (E ∷ Es) = precedes E Es && rises Es
 
 -- one of them has more than 120 symbols
 abbrev pub any_large : List Exp → Bool
-any_large Es = some (λ E. ltb 120 (size E)) Es
+any_large Es = some (λ E. nat_lt 120 (size E)) Es
 
 -- more than 32 members, or one of more than 120 symbols
 abbrev pub wide : List Exp → Bool

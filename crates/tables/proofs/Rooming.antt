@@ -15,12 +15,12 @@ use Rattle.tables.proofs.Ranking.{room_left}
 
 -- what was there already changes nothing, and what is new makes one more
 module _ (x : Pair) where
-  insert-known : (xs : List Pair) → member_by itself pair_order x xs ≡ true → insert_by itself pair_order x xs ≡ xs
-  insert-known [] m = absurd (false≢true m)
-  insert-known (y ∷ ys) m =
+  insert_known : (xs : List Pair) → member_by itself pair_order x xs ≡ true → insert_by itself pair_order x xs ≡ xs
+  insert_known [] m = absurd (false≢true m)
+  insert_known (y ∷ ys) m =
       (elim (pair_order x y) as (λ o.
       ranked o false true (member_by itself pair_order x ys) ≡ true → ranked o (x ∷ (y ∷ ys)) (y ∷ ys) (y ∷ insert_by itself pair_order x ys) ≡ y ∷ ys)
-      [ Less ↦ λ e. absurd (false≢true e) | Equal ↦ λ e. refl | Greater ↦ λ e. ap (λ (zs : List Pair). y ∷ zs) (insert-known ys e) ]) m
+      [ Less ↦ λ e. absurd (false≢true e) | Equal ↦ λ e. refl | Greater ↦ λ e. ap (λ (zs : List Pair). y ∷ zs) (insert_known ys e) ]) m
 
   insert_new : (xs : List Pair) → member_by itself pair_order x xs ≡ false → length (insert_by itself pair_order x xs) ≡ suc (length xs)
   insert_new [] m = refl
@@ -110,7 +110,7 @@ module _ (l : OrderedList Pair) (w : Roomy l) (p q : ℕ) (h : p < 16) (k : q < 
 
       pub old_roomy : Rising itself pair_order (members u) → spare u ≡ drop (cond b 1 0) (spare l) → Roomy u
       old_roomy r s =
-          let same = put ∙ insert-known x (members l) is_old in
+          let same = put ∙ insert_known x (members l) is_old in
           let left = s ∙ ap (λ (v : Bool). drop (cond v 1 0) (spare l)) old in
           record {
             rising = r;

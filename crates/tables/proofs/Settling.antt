@@ -32,9 +32,9 @@ module _ (text : List ℕ) (t : Table) (w : Whole text t) (event process : Field
   SettledIn u = Settled text t u (bytes_of text event) (bytes_of text process) n
 
   -- a known event, with its process
-  known-settled : n < length t.rows → number_of text t.processes (bytes_of text process) ≡ Some (row_in t n).process
+  known_settled : n < length t.rows → number_of text t.processes (bytes_of text process) ≡ Some (row_in t n).process
       → SettledIn (with_events t events)
-  known-settled h p =
+  known_settled h p =
       let old = numbered_old text t.events event 64 n events m (omega (arith, w.rows)) in
       let number = ap (λ fs. number_of text fs (bytes_of text event)) (sym old) ∙ m.number in
       subst (λ fs. SettledIn (with_events t fs)) (sym old)
@@ -52,7 +52,7 @@ module _ (text : List ℕ) (t : Table) (w : Whole text t) (event process : Field
   by_process u h =
       let o = number_of text t.processes (bytes_of text process) in
       cond_both (is_number (row_in t n).process o) _ _ (λ (r : Result Table NamesFault). r ≡ Ok u → SettledIn u)
-      (λ s e. subst SettledIn (ok_same (with_events t events) u e) (known-settled h (number_true (row_in t n).process o s)))
+      (λ s e. subst SettledIn (ok_same (with_events t events) u e) (known_settled h (number_true (row_in t n).process o s)))
       (λ _ e. let z : ◌≡◌ {A = ℕ} 0 1 = cc in absurd (omega arith))
 
   -- a new event

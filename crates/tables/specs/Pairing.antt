@@ -1,5 +1,5 @@
 -- The pairs of processes that an apart list lists.
-use Rattle.std.specs.Prelude.{◌≡◌, ℕ, ◌+◌, ◌<◌, cond, List, [], ◌++◌, length, get_or, drop, Ok, Err, codes, Result, ◌==◌, nat_lt, slice_index_or}
+use Rattle.std.specs.Prelude.{◌≡◌, ℕ, ◌+◌, ◌<◌, cond, List, [], ◌++◌, length, drop, Ok, Err, codes, Result, ◌==◌, nat_lt, slice_index_or}
 use Rattle.lines.specs.declared.fault.LinesFault.TheVariants.{TooLong}
 use Rattle.lines.specs.declared.field.Field.{Field}
 use Rattle.lines.specs.Reading.{opened}
@@ -41,7 +41,7 @@ abbrev pub add_pair : List ℕ → Table → List ℕ → List Field → List Pa
 add_pair table t text fields pairs =
     and_then (known_in table t.processes text (slice_index_or fields 0 no_field)) (λ p.
     and_then (known_in table t.processes text (slice_index_or fields 1 no_field)) (λ q.
-    with_pair (get_or fields 1 no_field).start p q pairs))
+    with_pair (slice_index_or fields 1 no_field).start p q pairs))
 
 -- the header is left,right; the first field that differs is refused
 abbrev pub apart_header : List ℕ → List Field → Result (Unit {0}) NamesFault

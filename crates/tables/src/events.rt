@@ -1,5 +1,5 @@
 // The table of events.
-ghost use Rattle.std.specs.Prelude.{◌≡◌, ◌≤◌, length, Ok};
+ghost use Rattle.std.specs.Prelude.{◌≡◌, Ok};
 ghost use Rattle.tables.specs.Entering.{entered};
 ghost use Rattle.tables.specs.Tabling.{event_table};
 

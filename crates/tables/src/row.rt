@@ -1,5 +1,5 @@
 // The row of an event: its process, and the cells that it reads and writes.
-ghost use Rattle.std.specs.Prelude.{◌≡◌, true, false, [], ◌∷◌, ◌++◌, length, set, replicate, is_some, IfSome, is_ok, if◌then◌else◌, vec_len, nat_lt, slice_index_or, slice_set};
+ghost use Rattle.std.specs.Prelude.{◌≡◌, true, false, [], ◌∷◌, ◌++◌, is_some, IfSome, is_ok, if◌then◌else◌, vec_len, nat_lt, slice_index_or, slice_set};
 ghost use Rattle.std.specs.Borrow.{sem, follows_if};
 ghost use Rattle.std.specs.Vec.{with_item};
 ghost use Rattle.std.specs.Option.{ghost_name_of as name_of};

@@ -8,7 +8,7 @@ use Rattle.traces.specs.Derivatives.{keep, nonzero, derivatives}
 use Rattle.traces.specs.Theorems.{DerivativesNormal}
 use Rattle.traces.proofs.Lists.{member_either, member_unmap}
 use Rattle.traces.proofs.NormalForms.{Shape, cat_shape, star_shape, restrict_shape, normal_from_shape, shape_from_normal}
-use Rattle.traces.proofs.DerivativeWords.{nonzero-out}
+use Rattle.traces.proofs.DerivativeWords.{nonzero_out}
 
 -- ── what passes on to derivatives ──
 
@@ -31,7 +31,7 @@ module _ (P : Exp → Type 0) (c : Passing P) (rel : Rel) (a : ℕ) where
   -- of all f E, for the members E
   map_passes : (f : Exp → Exp) (Es : List Exp) → ((E : Exp) → Member E Es → P (f E)) → (F : Exp) → Member F (nonzero (map f Es)) → P F
   map_passes f Es h F m =
-      let r = member_unmap f F Es (nonzero-out F (map f Es) m).0 in subst P (sym r.2) (h r.0 r.1)
+      let r = member_unmap f F Es (nonzero_out F (map f Es) m).0 in subst P (sym r.2) (h r.0 r.1)
 
   pub passes : (E F : Exp) → P E → Member F (derivatives rel a E) → P F
   passes (event b) F h m = event_passes F (eqb b a) m
@@ -81,11 +81,11 @@ derivative_nonzero rel a (cat A B) F m =
     let As = map (λ A'. cat_of A' B) (derivatives rel a A) in
     let Bs = map (λ B'. cat_of (keep rel a A) B') (derivatives rel a B) in
     elim (member_either F (nonzero As) (nonzero Bs) m) [
-      | inl k ↦ not_zero F (nonzero-out F As k).1
-      | inr k ↦ not_zero F (nonzero-out F Bs k).1
+      | inl k ↦ not_zero F (nonzero_out F As k).1
+      | inr k ↦ not_zero F (nonzero_out F Bs k).1
     ]
 derivative_nonzero rel a (star A) F m =
-    not_zero F (nonzero-out F (map (λ A'. cat_of (star_of (keep rel a A)) (cat_of A' (star_of A))) (derivatives rel a A)) m).1
+    not_zero F (nonzero_out F (map (λ A'. cat_of (star_of (keep rel a A)) (cat_of A' (star_of A))) (derivatives rel a A)) m).1
 
 shape_passing : Passing Shape
 shape_passing = record {
@@ -98,8 +98,8 @@ shape_passing = record {
   kept_has = λ p E h. restrict_shape p E;
 }
 
-pub derivatives-normal : DerivativesNormal
-derivatives-normal = (
+pub derivatives_normal : DerivativesNormal
+derivatives_normal = (
   derivative_nonzero,
   λ rel a E F h m. normal_from_shape F (passes Shape shape_passing rel a E F (shape_from_normal E h) m),
 )

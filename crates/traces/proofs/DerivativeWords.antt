@@ -25,9 +25,9 @@ nonzero_in E (F ∷ Es) z m = go (is_zero F) refl m (nonzero_in E Es z)
     go false e (inl f) h = inl f
     go false e (inr k) h = inr (h k)
 
-pub nonzero-out : (E : Exp) (Es : List Exp) → Member E (nonzero Es) → Member E Es × (is_zero E ≡ false)
-nonzero-out E [] m = absurd m
-nonzero-out E (F ∷ Es) m = go (is_zero F) refl m (nonzero-out E Es)
+pub nonzero_out : (E : Exp) (Es : List Exp) → Member E (nonzero Es) → Member E Es × (is_zero E ≡ false)
+nonzero_out E [] m = absurd m
+nonzero_out E (F ∷ Es) m = go (is_zero F) refl m (nonzero_out E Es)
   where
     go : (c : Bool) → is_zero F ≡ c → Member E (cond c (nonzero Es) (F ∷ nonzero Es))
         → (Member E (nonzero Es) → Member E Es × (is_zero E ≡ false)) → Member E (F ∷ Es) × (is_zero E ≡ false)
@@ -54,7 +54,7 @@ module _ (f : Exp → Exp) (Es : List Exp) (w : Word) where
 
   means_out : Means (nonzero (map f Es)) w → (E : Exp) × Member E Es × Matches (f E) w
   means_out s =
-      let r = member_unmap f s.0 Es (nonzero-out s.0 (map f Es) s.1).0 in
+      let r = member_unmap f s.0 Es (nonzero_out s.0 (map f Es) s.1).0 in
       (r.0, r.1, subst (λ G. Matches G w) r.2 s.2)
 
 -- ── words of derivatives ──
@@ -144,22 +144,22 @@ module _ (rel : Rel) (a : ℕ) where
       means_in (round (keep rel a E) E) (derivatives rel a E) w d.0 d.1 ((round_words (keep rel a E) E d.0 w).1 d.2)
 
   -- a word of a derivative is a word of the expression with the event taken out
-  derivatives-out : (E : Exp) (w : Word) → Means (derivatives rel a E) w → (u : Word) × Removal rel a u w × Matches E u
-  derivatives-out (event b) w s = event_out b w (eqb b a) refl s
-  derivatives-out one w s = absurd s.1
-  derivatives-out zero w s = absurd s.1
-  derivatives-out (sum E F) w s =
+  derivatives_out : (E : Exp) (w : Word) → Means (derivatives rel a E) w → (u : Word) × Removal rel a u w × Matches E u
+  derivatives_out (event b) w s = event_out b w (eqb b a) refl s
+  derivatives_out one w s = absurd s.1
+  derivatives_out zero w s = absurd s.1
+  derivatives_out (sum E F) w s =
       elim (any_either (λ G. Matches G w) (derivatives rel a E) (derivatives rel a F) s) [
-        | inl t ↦ let r = derivatives-out E w t in (r.0, r.1, inl r.2)
-        | inr t ↦ let r = derivatives-out F w t in (r.0, r.1, inr r.2)
+        | inl t ↦ let r = derivatives_out E w t in (r.0, r.1, inl r.2)
+        | inr t ↦ let r = derivatives_out F w t in (r.0, r.1, inr r.2)
       ]
-  derivatives-out (cat E F) w s =
+  derivatives_out (cat E F) w s =
       let f = λ (E' : Exp). cat_of E' F in
       let g = λ (F' : Exp). cat_of (keep rel a E) F' in
       elim (any_either (λ G. Matches G w) (nonzero (map f (derivatives rel a E))) (nonzero (map g (derivatives rel a F))) s) [
         | inl t ↦ let d = means_out f (derivatives rel a E) w t in
             let i = (cat_words d.0 F w).0 d.2 in
-            let r = derivatives-out E i.0 (d.0, d.1, i.3) in (
+            let r = derivatives_out E i.0 (d.0, d.1, i.3) in (
               r.0 ++ i.1,
               subst (λ t. Removal rel a (r.0 ++ i.1) t) (sym i.2) (removal_left rel a r.0 i.0 i.1 r.1),
               (r.0, i.1, refl, r.2, i.4),
@@ -167,18 +167,18 @@ module _ (rel : Rel) (a : ℕ) where
         | inr t ↦ let d = means_out g (derivatives rel a F) w t in
             let i = (cat_words (keep rel a E) d.0 w).0 d.2 in
             let k = (keep_words rel a E i.0).0 i.3 in
-            let r = derivatives-out F i.1 (d.0, d.1, i.4) in (
+            let r = derivatives_out F i.1 (d.0, d.1, i.4) in (
               i.0 ++ r.0,
               subst (λ t. Removal rel a (i.0 ++ r.0) t) (sym i.2) (removal_right rel a i.0 r.0 i.1 k.1 r.1),
               (i.0, r.0, refl, k.0, r.2),
             )
       ]
-  derivatives-out (star E) w s =
+  derivatives_out (star E) w s =
       let d = means_out (round (keep rel a E) E) (derivatives rel a E) w s in
       let i = (round_words (keep rel a E) E d.0 w).0 d.2 in
       let j = i.4 in
       let k = (keep_words rel a (star E) i.0).0 ((star_words (keep rel a E) i.0).1 i.3) in
-      let r = derivatives-out E j.0 (d.0, d.1, j.3) in (
+      let r = derivatives_out E j.0 (d.0, d.1, j.3) in (
         i.0 ++ (r.0 ++ j.1),
         subst (λ t. Removal rel a (i.0 ++ (r.0 ++ j.1)) t) (sym (i.2 ∙ ap (λ t. i.0 ++ t) j.2))
             (removal_right rel a i.0 (r.0 ++ j.1) (j.0 ++ j.1) k.1 (removal_left rel a r.0 j.0 j.1 r.1)),
@@ -191,7 +191,7 @@ derivatives_closure rel E a w = (
       let d = derivatives_in rel a E c.0 f.0 c.2 f.1 in
       (d.0, d.1, (f.0, f.2, d.2)),
   λ s. let c = s.2 in
-      let r = derivatives-out rel a E c.0 (s.0, s.1, c.2) in (
+      let r = derivatives_out rel a E c.0 (s.0, s.1, c.2) in (
         r.0,
         exchanges_trans rel (a ∷ w) (a ∷ c.0) r.0
             (exchanges_cons rel a w c.0 c.1) (removal_exchanges rel a r.0 c.0 r.1),

@@ -15,7 +15,7 @@ use Rattle.traces.proofs.Lists.{member_left, member_right, member_either, no_mem
 use Rattle.traces.proofs.Exchanging.{exchanges_empty}
 use Rattle.traces.proofs.NormalForms.{normal_has_word}
 use Rattle.traces.proofs.DerivativeWords.{derivatives_closure}
-use Rattle.traces.proofs.DerivativeForms.{derivatives-normal}
+use Rattle.traces.proofs.DerivativeForms.{derivatives_normal}
 use Rattle.traces.proofs.Events.{closure_below}
 
 -- ── the next set ──
@@ -26,12 +26,12 @@ next_in rel a E F (G ∷ Es) (inl e) d =
     member_left F (derivatives rel a G) (next rel a Es) (subst (λ H. Member F (derivatives rel a H)) e d)
 next_in rel a E F (G ∷ Es) (inr m) d = member_right F (derivatives rel a G) (next rel a Es) (next_in rel a E F Es m d)
 
-pub next-out : (rel : Rel) (a : ℕ) (F : Exp) (Es : List Exp) → Member F (next rel a Es) → Any (λ E. Member F (derivatives rel a E)) Es
-next-out rel a F [] m = absurd m
-next-out rel a F (G ∷ Es) m =
+pub next_out : (rel : Rel) (a : ℕ) (F : Exp) (Es : List Exp) → Member F (next rel a Es) → Any (λ E. Member F (derivatives rel a E)) Es
+next_out rel a F [] m = absurd m
+next_out rel a F (G ∷ Es) m =
     elim (member_either F (derivatives rel a G) (next rel a Es) m) [
       | inl d ↦ (G, inl refl, d)
-      | inr k ↦ let r = next-out rel a F Es k in (r.0, inr r.1, r.2)
+      | inr k ↦ let r = next_out rel a F Es k in (r.0, inr r.1, r.2)
     ]
 
 -- ── the set after a word ──
@@ -45,7 +45,7 @@ after_closure rel (a ∷ w) v Es =
       λ s. let d = (derivatives_closure rel s.0 a (w ++ v)).0 s.2 in
           h.0 (d.0, next_in rel a s.0 d.0 Es s.1 d.1, d.2),
       λ s. let t = h.1 s in
-          let r = next-out rel a t.0 Es t.1 in
+          let r = next_out rel a t.0 Es t.1 in
           (r.0, r.1, (derivatives_closure rel r.0 a (w ++ v)).1 (t.0, r.2, t.2)),
     )
 
@@ -85,24 +85,24 @@ nullable_in (cat E F) i =
     (nullable_in F (subst (λ t. Matches F t) (empty_right i.0 i.1 i.2) i.4))
 nullable_in (star E) i = refl
 
-nullable-out : (E : Exp) → nullable E ≡ true → Matches E []
-nullable-out (event b) e = absurd (false≢true e)
-nullable-out one e = refl
-nullable-out zero e = absurd (false≢true e)
-nullable-out (sum E F) e =
-    elim (or_cases (nullable E) (nullable F) e) [ inl f ↦ inl (nullable-out E f) | inr f ↦ inr (nullable-out F f) ]
-nullable-out (cat E F) e =
+nullable_out : (E : Exp) → nullable E ≡ true → Matches E []
+nullable_out (event b) e = absurd (false≢true e)
+nullable_out one e = refl
+nullable_out zero e = absurd (false≢true e)
+nullable_out (sum E F) e =
+    elim (or_cases (nullable E) (nullable F) e) [ inl f ↦ inl (nullable_out E f) | inr f ↦ inr (nullable_out F f) ]
+nullable_out (cat E F) e =
     let f = and_parts (nullable E) (nullable F) e in
-    ([], [], refl, nullable-out E f.0, nullable-out F f.1)
-nullable-out (star E) e = done refl
+    ([], [], refl, nullable_out E f.0, nullable_out F f.1)
+nullable_out (star E) e = done refl
 
 pub nullable_decides : NullableDecides
-nullable_decides E = (nullable-out E, nullable_in E)
+nullable_decides E = (nullable_out E, nullable_in E)
 
 closure_empty : (rel : Rel) (E : Exp) → Closure rel E [] ↔ (nullable E ≡ true)
 closure_empty rel E = (
   λ c. nullable_in E (subst (λ t. Matches E t) (exchanges_empty rel [] c.0 refl c.1) c.2),
-  λ e. ([], unchanged refl, nullable-out E e),
+  λ e. ([], unchanged refl, nullable_out E e),
 )
 
 pub nullable_closure : NullableClosure
@@ -120,9 +120,9 @@ Proper Es = (E : Exp) → Member E Es → Normal E × (E ≢ zero)
 
 next_proper : (rel : Rel) (a : ℕ) (Es : List Exp) → Proper Es → Proper (next rel a Es)
 next_proper rel a Es h F m =
-    let r = next-out rel a F Es m in (
-      derivatives-normal.1 rel a r.0 F (h r.0 r.1).0 r.2,
-      derivatives-normal.0 rel a r.0 F r.2,
+    let r = next_out rel a F Es m in (
+      derivatives_normal.1 rel a r.0 F (h r.0 r.1).0 r.2,
+      derivatives_normal.0 rel a r.0 F r.2,
     )
 
 after_proper : (rel : Rel) (w : Word) (Es : List Exp) → Proper Es → Proper (after rel Es w)
@@ -156,7 +156,7 @@ nonempty_prefix n rel E w h z b = (
 
 next_subset : (rel : Rel) (a : ℕ) (Es Fs : List Exp) → Subset Es Fs → Subset (next rel a Es) (next rel a Fs)
 next_subset rel a Es Fs h G m =
-    let r = next-out rel a G Es m in next_in rel a r.0 G Fs (h r.0 r.1) r.2
+    let r = next_out rel a G Es m in next_in rel a r.0 G Fs (h r.0 r.1) r.2
 
 after_subset : (rel : Rel) (Es Fs : List Exp) (w : Word) → Subset Es Fs → Subset (after rel Es w) (after rel Fs w)
 after_subset rel Es Fs [] h = h

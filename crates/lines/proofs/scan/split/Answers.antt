@@ -1,14 +1,14 @@
 use Rattle.std.proofs.Common.{◌≡◌, ◌+◌, ◌++◌, length, take, drop, set, Some, sym, ap, ◌∙◌, add-zero, arith}
 use Rattle.std.proofs.lemmas.List.{length-set, length-replicate}
 use Rattle.lines.specs.Fields.{between, parted}
-use Rattle.lines.proofs.Parting.{parted-some, parted_here, parted_on, parted_last, length-joined, put_next, put_last, exactly_all, exactly_none}
+use Rattle.lines.proofs.Parting.{parted_some, parted_here, parted_on, parted_last, length_joined, put_next, put_last, exactly_all, exactly_none}
 use Rattle.lines.proofs.scan.split.Goals as goal
 
 pub returns-then-count : goal.returns-then-count
 returns-then-count g c =
     let e = parted_here 44 c.loop-i.start c.args.place c.args.bytes.now c.loop-i.i c.loop-i-test.true c.if-b-ne44.false in
-    let more = parted-some 44 (c.args.place + c.loop-i.i + 1) (c.args.place + (c.loop-i.i + 1)) (drop (c.loop-i.i + 1) c.args.bytes.now) in
-    let n = length-joined c.loop-i.fields _ _ c.loop-i.count (omega arith) c.loop-i.invariant.3 in
+    let more = parted_some 44 (c.args.place + c.loop-i.i + 1) (c.args.place + (c.loop-i.i + 1)) (drop (c.loop-i.i + 1) c.args.bytes.now) in
+    let n = length_joined c.loop-i.fields _ _ c.loop-i.count (omega arith) c.loop-i.invariant.3 in
     exactly_none _ _ (λ q. omega (arith, q, n, ap length e, more))
 
 pub loop-i-preserved : goal.loop-i-preserved
@@ -28,7 +28,7 @@ loop-i-preserved-then-b-ne44 g c =
 pub returns-then-count-2 : goal.returns-then-count-2
 returns-then-count-2 g c =
     let e = parted_last 44 c.loop-i.start c.args.place c.args.bytes.now c.loop-i.i c.loop-i-test.false in
-    let n = length-joined c.loop-i.fields _ _ c.loop-i.count (omega arith) c.loop-i.invariant.3 in
+    let n = length_joined c.loop-i.fields _ _ c.loop-i.count (omega arith) c.loop-i.invariant.3 in
     exactly_none _ _ (λ q. omega (arith, q, n, ap length e))
 
 pub returns : goal.returns
@@ -36,7 +36,7 @@ returns g c =
     let i : c.loop-i.i ≡ length c.args.bytes.now = omega arith in
     let e = parted_last 44 c.loop-i.start c.args.place c.args.bytes.now c.loop-i.i c.loop-i-test.false in
     let whole = put_last c.loop-i.fields c.loop-i.count (between c.loop-i.start (c.args.place + c.loop-i.i)) (omega arith) ∙ ap (λ fs. take c.loop-i.count c.loop-i.fields ++ fs) (sym e) ∙ c.loop-i.invariant.3 in
-    let n = length-joined c.loop-i.fields _ _ c.loop-i.count (omega arith) c.loop-i.invariant.3 in
+    let n = length_joined c.loop-i.fields _ _ c.loop-i.count (omega arith) c.loop-i.invariant.3 in
     ap Some (ap (λ k. set c.loop-i.fields c.loop-i.count (between c.loop-i.start (c.args.place + k))) (sym i) ∙ whole)
     ∙ exactly_all _ _ (omega (arith, n, ap length e))
 

@@ -1,4 +1,4 @@
-use Rattle.ordered.proofs.Opening.{part, turned, opened_front, opened-rest}
+use Rattle.ordered.proofs.Opening.{part, turned, opened_front, opened_rest}
 use Rattle.ordered.proofs.place.insert_at.Goals as goal
 
 pub returns : goal.returns
@@ -11,4 +11,4 @@ returns g c =
     let le = c.requires.1 in
     let r = c.rotate_right.new.self in
     let e = turned s n p x lt le _ r (part s n p x lt le) c.rotate_right.ensures.after in
-    record { front = opened_front s n p x lt le r e; rest = opened-rest s n p x lt le r e }
+    record { front = opened_front s n p x lt le r e; rest = opened_rest s n p x lt le r e }
