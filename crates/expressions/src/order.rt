@@ -5,7 +5,7 @@ ghost use Rattle.traces.specs.Normal.{equal, is_summand};
 ghost use Rattle.traces.specs.Order.{order, tree_order, first_symbol};
 ghost use Rattle.expressions.specs.Model.{model, symbols_of};
 ghost use Rattle.std.specs.Ordering.{nat_cmp};
-ghost use Rattle.expressions.specs.Symbols.{lex_equal};
+ghost use Rattle.std.specs.FinMap.{nat_cmp-IsAntisymmetric, slice_cmp-IsAntisymmetric};
 ghost use Rattle.std.specs.Cmp.{nat_cmp_total};
 
 use crate::expr::Expr;
@@ -82,7 +82,7 @@ impl TotalOrder for Expr {
 
     ghost order = { slice_cmp nat_cmp };
 
-    ghost same = { lex_equal };
+    ghost same = { slice_cmp-IsAntisymmetric nat_cmp-IsAntisymmetric };
 
     ghost converse = { λ a b. (lists_total nat_cmp_total).antisymm b a };
 

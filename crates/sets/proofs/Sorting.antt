@@ -11,6 +11,7 @@ use Rattle.traces.specs.Words.{Rel}
 use Rattle.traces.specs.Expressions.{Exp, EventsBelow}
 use Rattle.traces.specs.Order.{symbols, order}
 use Rattle.traces.specs.Derivatives.{next}
+use Rattle.std.specs.FinMap.{nat_cmp-IsAntisymmetric, slice_cmp-IsAntisymmetric}
 use Rattle.traces.proofs.Lists.{member_unmap}
 use Rattle.traces.proofs.Events.{events_stay_below}
 use Rattle.traces.proofs.Ordering.{order_total, order_equal}
@@ -19,10 +20,9 @@ use Rattle.expressions.specs.Model.{model, models}
 use Rattle.sets.specs.Sets.{insert, insert_each, sorted, precedes, rises, SameMembers}
 use Rattle.expressions.specs.declared.expr.Expr.{Expr}
 use Rattle.expressions.proofs.Bounds.{events_below}
-use Rattle.expressions.specs.Symbols.{lex_equal}
 
 in_order : (Es : List Exp) → InTurn symbols (slice_cmp nat_cmp) Es
-in_order Es = in_turn symbols (slice_cmp nat_cmp) lex_equal (λ a b. (lists_total nat_cmp_total).antisymm b a) (lists_total nat_cmp_total).trans Es
+in_order Es = in_turn symbols (slice_cmp nat_cmp) (slice_cmp-IsAntisymmetric nat_cmp-IsAntisymmetric) (λ a b. (lists_total nat_cmp_total).antisymm b a) (lists_total nat_cmp_total).trans Es
 
 -- ── rising ──
 

@@ -9,21 +9,20 @@ use Rattle.ordered.specs.declared.full.Full.{Full}
 use Rattle.ordered.specs.declared.list.OrderedList.{OrderedList}
 use Rattle.traces.specs.Expressions.{Exp}
 use Rattle.traces.specs.Order.{symbols, size, order}
-use Rattle.traces.proofs.Ordering.{size_counts_symbols}
+use Rattle.traces.proofs.Ordering.{size_counts_symbols, order_equal}
 use Rattle.expressions.specs.Model.{model, models, symbols_of}
 use Rattle.sets.specs.Sets.{insert, insert_each, any_large, wide}
 use Rattle.sets.specs.Refusals.{Refused, Becomes}
 use Rattle.expressions.specs.declared.expr.Expr.{Expr}
 use Rattle.sets.specs.declared.refusal.SetRefusal.{SetRefusal}
 use Rattle.sets.specs.declared.refusal.SetRefusal.TheVariants.{TooWide, Memory}
-use Rattle.expressions.specs.Symbols.{lex_equal}
 use Rattle.sets.proofs.Inserting.{insert_grows, insert-append, no_room}
 use Rattle.std.specs.Ordering.{nat_cmp}
 
 -- ── the sizes of the members ──
 
 same_size : (E F : Exp) → order E F ≡ Equal → size E ≡ size F
-same_size E F e = size_counts_symbols E ∙ ap length (lex_equal (symbols E) (symbols F) e) ∙ sym (size_counts_symbols F)
+same_size E F e = size_counts_symbols E ∙ ap length (order_equal.0 E F e) ∙ sym (size_counts_symbols F)
 
 or_twice : (x y : Bool) → (x || y) ≡ (x || (x || y))
 or_twice true y = refl

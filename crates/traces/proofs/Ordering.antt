@@ -2,6 +2,7 @@
 use Rattle.std.proofs.Common.{◌≡◌, ℕ, suc, ◌+◌, ◌<◌, ◌≤◌, List, [], ◌∷◌, ◌++◌, length, Ordering, Less, Equal, Greater, sym, refl, ap, ◌∙◌, true≢false, append_assoc, append-nil, arith, lit≤, length-append}
 use Rattle.std.specs.Cmp.{nat_cmp_total}
 use Rattle.std.specs.Cmp.Lexicographic.{slice_cmp, lists_total}
+use Rattle.std.specs.FinMap.{nat_cmp-IsAntisymmetric, slice_cmp-IsAntisymmetric}
 use Rattle.std.specs.Ordering.{is_lt, is_gt, ordering_then, nat_cmp}
 use Rattle.std.proofs.lemmas.Bool.Decides.{nat_tests}
 use Rattle.traces.specs.Expressions.{Exp, event, one, zero, sum, cat, star, EventsBelow}
@@ -34,9 +35,6 @@ rank_less m n h = grind (arith, nat_tests)
 rank_greater : (m n : ℕ) → n < m → nat_cmp m n ≡ Greater
 rank_greater m n h = grind (arith, nat_tests)
 
-rank_equal : (m n : ℕ) → nat_cmp m n ≡ Equal → m ≡ n
-rank_equal m n e = grind (arith, nat_tests)
-
 less≢equal : Less ≡ Equal → ⊥
 less≢equal e = true≢false (ap is_lt e)
 
@@ -54,13 +52,6 @@ rank_same m = grind (arith, nat_tests)
 lex_self : (s : List ℕ) → slice_cmp nat_cmp s s ≡ Equal
 lex_self [] = refl
 lex_self (x ∷ s) = ap (λ o. ordering_then o (slice_cmp nat_cmp s s)) (rank_same x) ∙ lex_self s
-
-lex_equal : (s t : List ℕ) → slice_cmp nat_cmp s t ≡ Equal → s ≡ t
-lex_equal [] [] e = refl
-lex_equal [] (y ∷ t) e = absurd (less≢equal e)
-lex_equal (x ∷ s) [] e = absurd (greater≢equal e)
-lex_equal (x ∷ s) (y ∷ t) e =
-    let f = then_parts (nat_cmp x y) (slice_cmp nat_cmp s t) e in λ i. rank_equal x y f.0 i ∷ lex_equal s t f.1 i
 
 pub order_total : OrderTotal
 order_total = (
@@ -144,13 +135,13 @@ order_by_parts E F h k =
 
 -- an event is no other symbol
 event_first : (b n : ℕ) → b < 64 → 64 ≤ n → nat_cmp b n ≡ Equal → ⊥
-event_first b n h k e = omega (arith, rank_equal b n e)
+event_first b n h k e = omega (arith, nat_cmp-IsAntisymmetric b n e)
 
 event_second : (n c : ℕ) → c < 64 → 64 ≤ n → nat_cmp n c ≡ Equal → ⊥
-event_second n c h k e = omega (arith, rank_equal n c e)
+event_second n c h k e = omega (arith, nat_cmp-IsAntisymmetric n c e)
 
 tree_equal : (E F : Exp) → EventsBelow 64 E → EventsBelow 64 F → tree_order E F ≡ Equal → E ≡ F
-tree_equal (event b) (event c) h k e = ap (λ n. event n) (rank_equal b c e)
+tree_equal (event b) (event c) h k e = ap (λ n. event n) (nat_cmp-IsAntisymmetric b c e)
 tree_equal (event b) one h k e = absurd (event_first b 64 h (lit≤ tt) e)
 tree_equal (event b) zero h k e = absurd (event_first b 68 h (lit≤ tt) e)
 tree_equal (event b) (sum C D) h k e = absurd (event_first b 65 h (lit≤ tt) e)
@@ -193,6 +184,6 @@ tree_equal (star A) (star C) h k e = ap (λ E. star E) (tree_equal A C h k e)
 
 pub order_equal : OrderEqual
 order_equal = (
-  λ E F e. lex_equal (symbols E) (symbols F) e,
+  λ E F e. slice_cmp-IsAntisymmetric nat_cmp-IsAntisymmetric (symbols E) (symbols F) e,
   λ E F h k e. tree_equal E F h k (sym (order_by_parts E F h k) ∙ e),
 )
