@@ -7,7 +7,7 @@ use Rattle.std.proofs.lemmas.Bool.{cond-true, cond-false, eq-eqb, le-leb, lt-leb
 use Rattle.std.specs.List.{AllByRecursion}
 use Rattle.lines.specs.declared.field.Field.{Field}
 use Rattle.lines.specs.Fields.{bytes_of, fields_at}
-use Rattle.lines.specs.Scanning.{body, ending_of}
+use Rattle.lines.specs.Scanning.{body, next_line}
 use Rattle.lines.specs.Reading.{ended, record_at, record_in, some, next_record}
 use Rattle.lines.specs.Texts.{Row, commas, written, ReadsOn, Accepted, contents, LastShows, ReadsWritten}
 use Rattle.lines.proofs.Bodies.{body-append}
@@ -21,12 +21,12 @@ module _ (width : ℕ) (text : List ℕ) (some-width : 0 < width) (place : ℕ) 
   row_count : length (fields_at place (commas row)) ≡ width
   row_count = sym (length-map (fields_at place (commas row)) (bytes_of text)) ∙ ap length row_held ∙ of_row.0
 
-  row_read : body tail ≡ [] → record_at width text place ≡ ended width place (commas row) (ending_of tail)
+  row_read : body tail ≡ [] → record_at width text place ≡ ended width place (commas row) (next_line (place + length (commas row)) tail)
   row_read e =
       let own : body (commas row ++ tail) ≡ commas row = body-append (commas row) tail (commas_record row of_row.1) e in
       ap (record_in width place) stands
-      ∙ ap (λ bs. ended width place bs (ending_of (drop (length bs) (commas row ++ tail)))) own
-      ∙ ap (λ bs. ended width place (commas row) (ending_of bs)) (drop-append_seam (commas row) tail)
+      ∙ ap (λ bs. ended width place bs (next_line (place + length bs) (drop (length bs) (commas row ++ tail)))) own
+      ∙ ap (λ bs. ended width place (commas row) (next_line (place + length (commas row)) bs)) (drop-append_seam (commas row) tail)
 
 next_end : (width : ℕ) (text : List ℕ) (place : ℕ) → length text ≤ place → next_record width text place ≡ Ok None
 next_end width text place h = cond-true _ _ _ (le-leb (length text) place h)

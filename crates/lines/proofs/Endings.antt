@@ -1,15 +1,10 @@
--- The bytes behind a record, from what they are to it.
-use Rattle.std.proofs.Common.{◌≡◌, ℕ, List, [], ◌∷◌, drop, refl, arith}
+-- The bytes behind a record that was read.
+use Rattle.std.proofs.Common.{◌≡◌, ℕ, ◌+◌, List, [], ◌∷◌, ◌⊎◌, Ok, drop, refl, inl, inr, arith}
 use Rattle.std.proofs.lemmas.Bool.Decides.{nat_tests}
-use Rattle.lines.specs.declared.scan.Ending.TheVariants.{Text, Line}
-use Rattle.lines.specs.Scanning.{ending_of}
+use Rattle.lines.specs.Scanning.{next_line}
 
-pub text_ends : (behind : List ℕ) → ending_of behind ≡ Text → behind ≡ []
-text_ends [] e = refl
-text_ends (b ∷ []) e = grind (arith, nat_tests)
-text_ends (b ∷ (c ∷ cs)) e = grind (arith, nat_tests)
-
-pub line_ends : (behind : List ℕ) → ending_of behind ≡ Line → behind ≡ 13 ∷ 10 ∷ drop 2 behind
-line_ends [] e = cc
-line_ends (b ∷ []) e = grind (arith, nat_tests)
-line_ends (b ∷ (c ∷ cs)) e = grind (arith, nat_tests)
+pub line_ends : (end : ℕ) (bytes : List ℕ) (next : ℕ) → next_line end bytes ≡ Ok next
+    → ((bytes ≡ []) × (next ≡ end)) ⊎ ((bytes ≡ 13 ∷ 10 ∷ drop 2 bytes) × (next ≡ end + 2))
+line_ends end [] next e = inl (refl, cc)
+line_ends end (b ∷ []) next e = absurd (grind (arith, nat_tests))
+line_ends end (b ∷ (c ∷ cs)) next e = inr (grind (arith, nat_tests), grind (arith, nat_tests))

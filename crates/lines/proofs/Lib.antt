@@ -1,6 +1,7 @@
 pub mod Parts
 pub mod Bodies
 pub mod Parting
+pub mod FirstPart
 pub mod Pieces
 pub mod Endings
 pub mod Taken

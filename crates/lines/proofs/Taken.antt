@@ -4,13 +4,11 @@ use Rattle.std.proofs.lemmas.List.{append-nil, take-append-drop}
 use Rattle.std.proofs.lemmas.Bool.{cond_both, eqb-true, leb-true, leb-false, ltb-false}
 use Rattle.lines.specs.declared.fault.LinesFault.{LinesFault}
 use Rattle.lines.specs.declared.field.Field.{Field}
-use Rattle.lines.specs.declared.scan.Ending.{Ending}
-use Rattle.lines.specs.declared.scan.Ending.TheVariants.{Text, Line, Stray, Foreign}
 use Rattle.lines.specs.Fields.{fields_at}
-use Rattle.lines.specs.Scanning.{body, ending_of}
+use Rattle.lines.specs.Scanning.{body, next_line}
 use Rattle.lines.specs.Reading.{counted_as, ended, record_at, opened, some, next_record}
 use Rattle.lines.proofs.Bodies.{body_front}
-use Rattle.lines.proofs.Endings.{text_ends, line_ends}
+use Rattle.lines.proofs.Endings.{line_ends}
 use Rattle.lines.proofs.Pieces.{drop_behind}
 
 -- a record with its own bytes, which the end of the text or CR LF follows
@@ -27,7 +25,7 @@ counted_taken width place bytes next behind r =
     cond_both (eqb (length (fields_at place bytes)) width) _ _
     (λ (x : Result (List Field × ℕ) LinesFault). x ≡ Ok (r, behind) → (length (fields_at place bytes) ≡ width) × (fields_at place bytes ≡ r) × (next ≡ behind))
     (λ t e. let same : ◌≡◌ {A = List Field × ℕ} (fields_at place bytes, next) (r, behind) = cc in (eqb-true (length (fields_at place bytes)) width t, ap (λ p. p.0) same, ap (λ p. p.1) same))
-    (λ _ e. let z : ◌≡◌ {A = ℕ} 0 1 = cc in absurd (omega arith))
+    (λ _ e. absurd cc)
 
 module _ (width : ℕ) (text : List ℕ) (place : ℕ) (r : List Field) (behind : ℕ) where
   front : drop place text ≡ body (drop place text) ++ drop (length (body (drop place text))) (drop place text)
@@ -35,31 +33,28 @@ module _ (width : ℕ) (text : List ℕ) (place : ℕ) (r : List Field) (behind 
       sym (take-append-drop (length (body (drop place text))) (drop place text))
       ∙ ap (λ bs. bs ++ drop (length (body (drop place text))) (drop place text)) (body_front (drop place text))
 
-  by_ending : (e : Ending) → ending_of (drop (length (body (drop place text))) (drop place text)) ≡ e
+  by_ending : (e : Result ℕ LinesFault)
+      → next_line (place + length (body (drop place text))) (drop (length (body (drop place text))) (drop place text)) ≡ e
       → ended width place (body (drop place text)) e ≡ Ok (r, behind) → Taken width text place r behind
-  by_ending Text e q =
-      let k = counted_taken width place (body (drop place text)) (place + length (body (drop place text))) behind r q in
-      let none = text_ends (drop (length (body (drop place text))) (drop place text)) e in
+  by_ending (Ok next) e q =
+      let own : List ℕ = body (drop place text) in
+      let k = counted_taken width place own next behind r q in
       record {
         fields = k.1;
         count = ap length (sym k.1) ∙ k.0;
-        ends = inl (front ∙ ap (λ bs. body (drop place text) ++ bs) none ∙ append-nil (body (drop place text)), sym k.2);
+        ends = elim (line_ends (place + length own) (drop (length own) (drop place text)) next e) [
+          | inl l ↦ inl (front ∙ ap (λ bs. own ++ bs) l.0 ∙ append-nil own, omega (arith, k.2, l.1))
+          | inr l ↦
+              let at : behind ≡ place + (length own + 2) = omega (arith, k.2, l.1) in
+              let rest = drop_behind text own (drop (length own) (drop place text)) place 2 front in
+              inr (front ∙ ap (λ bs. own ++ bs) (l.0 ∙ ap (λ bs. 13 ∷ 10 ∷ bs) (sym rest ∙ ap (λ n. drop n text) (sym at))), at)
+        ];
       }
-  by_ending Line e q =
-      let k = counted_taken width place (body (drop place text)) (place + length (body (drop place text)) + 2) behind r q in
-      let line = line_ends (drop (length (body (drop place text))) (drop place text)) e in
-      let at : behind ≡ place + (length (body (drop place text)) + 2) = omega (arith, k.2) in
-      let rest = drop_behind text (body (drop place text)) (drop (length (body (drop place text))) (drop place text)) place 2 front in
-      record {
-        fields = k.1;
-        count = ap length (sym k.1) ∙ k.0;
-        ends = inr (front ∙ ap (λ bs. body (drop place text) ++ bs) (line ∙ ap (λ bs. 13 ∷ 10 ∷ bs) (sym rest ∙ ap (λ n. drop n text) (sym at))), at);
-      }
-  by_ending Stray e q = let z : ◌≡◌ {A = ℕ} 0 1 = cc in absurd (omega arith)
-  by_ending Foreign e q = let z : ◌≡◌ {A = ℕ} 0 1 = cc in absurd (omega arith)
+  by_ending (Err f) e q = absurd cc
 
   pub taken : record_at width text place ≡ Ok (r, behind) → Taken width text place r behind
-  taken q = by_ending (ending_of (drop (length (body (drop place text))) (drop place text))) refl q
+  taken q =
+      by_ending (next_line (place + length (body (drop place text))) (drop (length (body (drop place text))) (drop place text))) refl q
 
   some_ok : (x : Result (List Field × ℕ) LinesFault) → some x ≡ Ok (Some (r, behind)) → x ≡ Ok (r, behind)
   some_ok (Ok read) e = cc
@@ -69,12 +64,12 @@ module _ (width : ℕ) (text : List ℕ) (place : ℕ) (r : List Field) (behind 
   next_taken =
       cond_both (leb (length text) place) _ _
       (λ x. x ≡ Ok (Some (r, behind)) → (place < length text) × Taken width text place r behind)
-      (λ _ e. let z : ◌≡◌ {A = ℕ} 0 1 = cc in absurd (omega arith))
+      (λ _ e. absurd cc)
       (λ t e. (leb-false (length text) place t, taken (some_ok (record_at width text place) e)))
 
 not_none : (x : Result (List Field × ℕ) LinesFault) → some x ≡ Ok None → ⊥
-not_none (Ok read) e = let z : ◌≡◌ {A = ℕ} 0 1 = cc in omega arith
-not_none (Err f) e = let z : ◌≡◌ {A = ℕ} 0 1 = cc in omega arith
+not_none (Ok read) e = cc
+not_none (Err f) e = cc
 
 -- only the end of the text has no further record
 pub next_none : (width : ℕ) (text : List ℕ) (place : ℕ) → next_record width text place ≡ Ok None → length text ≤ place
@@ -88,5 +83,5 @@ pub opened_taken : (width limit : ℕ) (text : List ℕ) (r : List Field) (behin
 opened_taken width limit text r behind =
     cond_both (ltb limit (length text)) _ _
     (λ x. x ≡ Ok (r, behind) → (length text ≤ limit) × Taken width text 0 r behind)
-    (λ _ e. let z : ◌≡◌ {A = ℕ} 0 1 = cc in absurd (omega arith))
+    (λ _ e. absurd cc)
     (λ t e. (ltb-false limit (length text) t, taken width text 0 r behind e))

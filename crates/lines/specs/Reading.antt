@@ -1,28 +1,25 @@
 -- What reading a record gives, over the bytes of the text.
 use Rattle.std.specs.Prelude.{ℕ, ◌+◌, cond, List, length, drop, Some, None, Ok, Err, Option, Result, ◌==◌, nat_le, nat_lt}
 use Rattle.lines.specs.declared.fault.LinesFault.{LinesFault}
-use Rattle.lines.specs.declared.fault.LinesFault.TheVariants.{TooLong, ForeignByte, StrayBreak, FieldCount}
+use Rattle.lines.specs.declared.fault.LinesFault.TheVariants.{TooLong, FieldCount}
 use Rattle.lines.specs.declared.field.Field.{Field}
-use Rattle.lines.specs.declared.scan.Ending.{Ending}
-use Rattle.lines.specs.declared.scan.Ending.TheVariants.{Text, Line, Stray, Foreign}
 use Rattle.lines.specs.Fields.{fields_at}
-use Rattle.lines.specs.Scanning.{body, ending_of}
+use Rattle.lines.specs.Scanning.{body, next_line}
 
 -- the record of these bytes at a place, if it has the width; behind it the reader goes on
 abbrev pub counted_as : ℕ → ℕ → List ℕ → ℕ → Result (List Field × ℕ) LinesFault
-counted_as width place bytes behind =
-    cond (length (fields_at place bytes) == width) (Ok (fields_at place bytes, behind)) (Err (FieldCount place))
+counted_as width place bytes next =
+    cond (length (fields_at place bytes) == width) (Ok (fields_at place bytes, next)) (Err (FieldCount place))
 
 -- a wrong byte behind the record's own is refused before their number of fields
-abbrev pub ended : ℕ → ℕ → List ℕ → Ending → Result (List Field × ℕ) LinesFault
-ended width place bytes Text = counted_as width place bytes (place + length bytes)
-ended width place bytes Line = counted_as width place bytes (place + length bytes + 2)
-ended width place bytes Stray = Err (StrayBreak (place + length bytes))
-ended width place bytes Foreign = Err (ForeignByte (place + length bytes))
+abbrev pub ended : ℕ → ℕ → List ℕ → Result ℕ LinesFault → Result (List Field × ℕ) LinesFault
+ended width place bytes (Ok next) = counted_as width place bytes next
+ended width place bytes (Err f) = Err f
 
 -- the record at the front of the bytes that stand from a place on
 abbrev pub record_in : ℕ → ℕ → List ℕ → Result (List Field × ℕ) LinesFault
-record_in width place rest = ended width place (body rest) (ending_of (drop (length (body rest)) rest))
+record_in width place rest =
+    ended width place (body rest) (next_line (place + length (body rest)) (drop (length (body rest)) rest))
 
 -- the record at a place of a text, and the place behind it
 abbrev pub record_at : ℕ → List ℕ → ℕ → Result (List Field × ℕ) LinesFault

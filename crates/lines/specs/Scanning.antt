@@ -1,7 +1,8 @@
 -- How far a record goes and what ends it.
-use Rattle.std.specs.Prelude.{ℕ, Bool, cond, not, ◌&&◌, List, [], ◌∷◌, ◌==◌, nat_le}
-use Rattle.lines.specs.declared.scan.Ending.{Ending}
-use Rattle.lines.specs.declared.scan.Ending.TheVariants.{Text, Line, Stray, Foreign}
+use Rattle.std.specs.Prelude.{ℕ, ◌+◌, Bool, if◌then◌else◌, not, ◌&&◌, List, [], ◌∷◌, Ok, Err, Result, ◌==◌, nat_le}
+use Rattle.std.specs.List.{take_while}
+use Rattle.lines.specs.declared.fault.LinesFault.{LinesFault}
+use Rattle.lines.specs.declared.fault.LinesFault.TheVariants.{ForeignByte, StrayBreak}
 
 -- a byte of a record: a printable ASCII byte that is no quote, so a byte of a field or a comma
 abbrev pub in_record : ℕ → Bool
@@ -13,15 +14,14 @@ in_field b = in_record b && not (b == 44)
 
 -- the longest front of the bytes that a record can hold
 abbrev pub body : List ℕ → List ℕ
-body [] = []
-body (b ∷ bs) = cond (in_record b) (b ∷ body bs) []
+body bytes = take_while in_record bytes
 
--- a carriage return ends the line if a line feed follows
-abbrev pub returned : List ℕ → Ending
-returned [] = Stray
-returned (b ∷ bs) = cond (b == 10) Line Stray
+-- a carriage return at `end` ends the line if a line feed follows
+abbrev pub returned : ℕ → List ℕ → Result ℕ LinesFault
+returned end [] = Err (StrayBreak end)
+returned end (b ∷ bs) = if b == 10 then Ok (end + 2) else Err (StrayBreak end)
 
--- what the bytes behind a record's own are to it
-abbrev pub ending_of : List ℕ → Ending
-ending_of [] = Text
-ending_of (b ∷ bs) = cond (b == 13) (returned bs) (cond (b == 10) Stray Foreign)
+-- where reading goes on behind a record whose own bytes end at `end`, by the bytes that stand there
+abbrev pub next_line : ℕ → List ℕ → Result ℕ LinesFault
+next_line end [] = Ok end
+next_line end (b ∷ bs) = if b == 13 then returned end bs else (if b == 10 then Err (StrayBreak end) else Err (ForeignByte end))

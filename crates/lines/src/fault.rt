@@ -1,8 +1,11 @@
-// Why a text is no list of records.
+//! Why a text is no list of records.
 ghost use Rattle.std.specs.Prelude.{◌≡◌};
 ghost use Rattle.lines.specs.Refusals.{lines_refusal};
 
-// The part of the reading that refuses.
+use std::error::Error;
+use std::fmt;
+
+/// The part of the reading that refuses.
 #[derive(Clone, Copy, PartialEq, Eq, Debug)]
 pub enum Layer {
     Lines,
@@ -10,7 +13,7 @@ pub enum Layer {
     Audit,
 }
 
-// What a user is told of a refusal. A place counts the bytes before it.
+/// What a user is told of a refusal. A place counts the bytes before it.
 #[derive(Clone, Copy, PartialEq, Eq, Debug)]
 pub struct Refusal {
     pub number: u8,
@@ -18,7 +21,7 @@ pub struct Refusal {
     pub layer: Layer,
 }
 
-// Each case but the first holds the place.
+/// Each case but the first holds the place.
 #[derive(Clone, Copy, PartialEq, Eq, Debug)]
 pub enum LinesFault {
     TooLong,
@@ -28,6 +31,7 @@ pub enum LinesFault {
 }
 
 impl LinesFault {
+    /// What a user is told: the fault's number and place.
     pub fn refusal(self) -> Refusal
         ensures { result ≡ lines_refusal self }
     {
@@ -44,3 +48,21 @@ impl LinesFault {
         }
     }
 }
+
+impl fmt::Display for LinesFault {
+    ghost use Rattle.std.specs.Prelude.{Some};
+    ghost use Rattle.lines.specs.Messages.{lines_message};
+
+    ghost output = { λ e. Some (lines_message e) };
+
+    fn fmt<W: fmt::Write>(&self, f: &mut fmt::Formatter<W>) -> fmt::Result {
+        match self {
+            LinesFault::TooLong => f.write_str("the text is too long"),
+            LinesFault::ForeignByte(at) => write!(f, "byte {at}: no byte of a record"),
+            LinesFault::StrayBreak(at) => write!(f, "byte {at}: a stray line break"),
+            LinesFault::FieldCount(at) => write!(f, "byte {at}: a wrong number of fields"),
+        }
+    }
+}
+
+impl Error for LinesFault {}

@@ -1,4 +1,4 @@
-// Comma-separated records of a byte text.
+//! Comma-separated records of a byte text.
 #![tactic(auto)]
 
 pub mod fault;

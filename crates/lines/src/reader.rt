@@ -1,19 +1,19 @@
-// Reads the records of a text one after another.
-ghost use Rattle.std.specs.Prelude.{◌≡◌, ◌+◌, ◌^◌, ◌<◌, ◌≤◌, length, Ok, Err, MatchResult};
-ghost use Rattle.lines.specs.Reading.{counted_as, record_in, record_at, opened, next_record, fields_in, place_after, WithRecord};
+//! Reads the records of a text one after another.
+ghost use Rattle.std.specs.Prelude.{◌≡◌, ◌<◌, ◌≤◌, length, Ok, Err, MatchResult};
+ghost use Rattle.lines.specs.Reading.{record_at, opened, next_record, fields_in, place_after, WithRecord};
 ghost use Rattle.lines.specs.Texts.{Rejoins, ReadsWritten};
 
 use crate::fault::LinesFault;
 use crate::field::Field;
-use crate::scan::{Ending, body_len, split, what_ends};
+use crate::scan::{body_len, next_line};
 
-// Where the reader stands: the first byte of the next record, or the end of the text.
+/// Where the reader stands: the first byte of the next record, or the end of the text.
 #[derive(Clone, Copy, PartialEq, Eq, Debug)]
 pub struct Position {
     pub place: usize,
 }
 
-// A text whose records have WIDTH fields, read as far as its position; the header is read already.
+/// A text whose records have WIDTH fields, read as far as its position; the header is read already.
 #[derive(Drop)]
 pub struct Records<'a, const WIDTH: usize> {
     text: &'a [u8],
@@ -21,52 +21,23 @@ pub struct Records<'a, const WIDTH: usize> {
     position: Position,
 }
 
-// The record of `bytes` at `place`, and where the reader goes on behind it.
-fn counted<const WIDTH: usize>(
-    bytes: &[u8],
-    place: usize,
-    behind: usize,
-) -> Result<([Field; WIDTH], usize), LinesFault>
-    requires { place + length bytes.now < 2 ^ 64 }
-    ensures { result ≡ counted_as WIDTH place bytes.now behind }
-{
-    match split(bytes, place) {
-        Some(fields) => Ok((fields, behind)),
-        None => Err(LinesFault::FieldCount(place)),
-    }
-}
-
-// The record at the front of `rest`, the part of a text from `place` on.
-fn record_in<const WIDTH: usize>(
-    rest: &[u8],
-    place: usize,
-) -> Result<([Field; WIDTH], usize), LinesFault>
-    requires { place + length rest.now < 2 ^ 64 }
-    ensures { result ≡ record_in WIDTH place rest.now }
-{
-    let len = body_len(rest);
-    let (bytes, behind) = rest.split_at(len);
-    let end = place + len;
-    match what_ends(behind) {
-        Ending::Text => counted(bytes, place, end),
-        Ending::Line => counted(bytes, place, end + 2),
-        Ending::Stray => Err(LinesFault::StrayBreak(end)),
-        Ending::Foreign => Err(LinesFault::ForeignByte(end)),
-    }
-}
-
+// The record at `place`, and where the reader goes on behind it.
 fn record_at<const WIDTH: usize>(
     text: &[u8],
     place: usize,
 ) -> Result<([Field; WIDTH], usize), LinesFault>
-    requires { place ≤ length text.now }
     ensures { result ≡ record_at WIDTH text.now place }
 {
-    record_in(&text[place..], place)
+    let len = body_len(text, place);
+    let next = next_line(text, place + len)?;
+    let record = Field { start: place, len };
+    let fields = record.split(text).ok_or(LinesFault::FieldCount(place))?;
+    Ok((fields, next))
 }
 
 impl<'a, const WIDTH: usize> Records<'a, WIDTH> {
-    // Takes a text of at most `limit` bytes and reads its first record, the header.
+    /// Takes a text of at most `limit` bytes and reads its first record, the header.
+    #[tactic(auto, using(crate::proofs::Rejoining::rejoins, crate::proofs::Accepting::reads_written))]
     pub fn open(text: &'a [u8], limit: usize) -> Result<Self, LinesFault>
         ensures result { MatchResult result (λ q. (q.text.now ≡ text.now) × (opened WIDTH limit text.now ≡ Ok (q.header, q.position.place))) (λ f. opened WIDTH limit text.now ≡ Err f) }
         ensures rejoins { Rejoins WIDTH limit text.now }
@@ -83,26 +54,28 @@ impl<'a, const WIDTH: usize> Records<'a, WIDTH> {
         })
     }
 
+    /// The fields of the first record.
     pub fn header(&self) -> [Field; WIDTH]
         ensures { result ≡ self.now.header }
     {
         self.header
     }
 
-    // The whole text.
+    /// The whole text.
     pub fn text(&self) -> &'a [u8]
         ensures { result.now ≡ self.now.text.now }
     {
         self.text
     }
 
+    /// Where the reader stands; `seek` goes back there.
     pub fn position(&self) -> Position
         ensures { result ≡ self.now.position }
     {
         self.position
     }
 
-    // Goes on from a position, as one that the reader had before.
+    /// Goes on from a position, as one that the reader had before.
     pub fn seek(&mut self, position: Position)
         ensures moved { self.new.position ≡ position }
         ensures kept { (self.new.text ≡ self.old.text) × (self.new.header ≡ self.old.header) }
@@ -110,7 +83,8 @@ impl<'a, const WIDTH: usize> Records<'a, WIDTH> {
         self.position = position;
     }
 
-    // The next record, or none at the end of the text. A refusal leaves the reader where it stood.
+    /// The next record, or none at the end of the text. A refusal leaves the reader where it stood.
+    #[tactic(auto, using(crate::proofs::Forward::record_forward))]
     pub fn next_record(&mut self) -> Result<Option<[Field; WIDTH]>, LinesFault>
         ensures read { result ≡ fields_in (next_record WIDTH self.old.text.now self.old.position.place) }
         ensures moved { self.new.position.place ≡ place_after self.old.position.place (next_record WIDTH self.old.text.now self.old.position.place) }

@@ -1,17 +1,26 @@
-// The bytes of one record: how far they go, what ends them, and where the commas part them.
-ghost use Rattle.std.specs.Prelude.{◌≡◌, ◌+◌, ◌^◌, ◌<◌, ◌≤◌, length};
-ghost use Rattle.lines.specs.Fields.{fields_at, exactly};
-ghost use Rattle.lines.specs.Scanning.{in_record, body, ending_of};
+//! How far the bytes from a place of a text go, and what ends a record.
+ghost use Rattle.std.specs.Prelude.{◌≡◌, ◌-◌, ◌≤◌, ◌==◌, length, drop};
+ghost use Rattle.std.specs.List.{position_or_len};
+ghost use Rattle.lines.specs.Scanning.{in_record, body, next_line};
 
-use crate::field::Field;
+use crate::fault::LinesFault;
 
-// What follows the last field of a record.
-#[derive(Clone, Copy)]
-pub(crate) enum Ending {
-    Text,
-    Line,
-    Stray,
-    Foreign,
+// The bytes from `place` on; none where the text ends before.
+pub(crate) fn rest(text: &[u8], place: usize) -> &[u8]
+    ensures { result.now ≡ drop place text.now }
+{
+    text.get(place..).unwrap_or_default()
+}
+
+// How many bytes from `place` on stand before a separator, or before the end where none comes.
+pub(crate) fn part_len(text: &[u8], place: usize, separator: u8) -> usize
+    ensures value { result ≡ position_or_len (λ b. b == separator) (drop place text.now) }
+    ensures within { result ≤ length text.now - place }
+{
+    rest(text, place)
+        .iter()
+        .take_while(|b| **b != separator)
+        .count()
 }
 
 fn in_record(b: u8) -> bool
@@ -20,58 +29,25 @@ fn in_record(b: u8) -> bool
     matches!(b, b' '..=b'~') && b != b'"'
 }
 
-// How many bytes of fields and commas stand in front.
-pub(crate) fn body_len(bytes: &[u8]) -> usize
-    ensures value { result ≡ length (body bytes.now) }
-    ensures within { result ≤ length bytes.now }
+// How many bytes of fields and commas stand from `place` on.
+pub(crate) fn body_len(text: &[u8], place: usize) -> usize
+    ensures value { result ≡ length (body (drop place text.now)) }
+    ensures within { result ≤ length text.now - place }
 {
-    for (i, b) in bytes.iter().enumerate() {
-        if !in_record(*b) {
-            return i;
-        }
-    }
-    bytes.len()
+    rest(text, place)
+        .iter()
+        .take_while(|b| in_record(**b))
+        .count()
 }
 
-pub(crate) fn what_ends(behind: &[u8]) -> Ending
-    ensures { result ≡ ending_of behind.now }
+// Where the next record begins behind one whose own bytes end at `end`.
+pub(crate) fn next_line(text: &[u8], end: usize) -> Result<usize, LinesFault>
+    ensures { result ≡ next_line end (drop end text.now) }
 {
-    match behind {
-        [] => Ending::Text,
-        [b'\r', b'\n', ..] => Ending::Line,
-        [b'\r', ..] | [b'\n', ..] => Ending::Stray,
-        _ => Ending::Foreign,
+    match rest(text, end) {
+        [] => Ok(end),
+        [b'\r', b'\n', ..] => Ok(end + 2),
+        [b'\r' | b'\n', ..] => Err(LinesFault::StrayBreak(end)),
+        _ => Err(LinesFault::ForeignByte(end)),
     }
-}
-
-// The fields of a record whose bytes begin at `place`, if there are WIDTH of them.
-pub(crate) fn split<const WIDTH: usize>(bytes: &[u8], place: usize) -> Option<[Field; WIDTH]>
-    requires { place + length bytes.now < 2 ^ 64 }
-    ensures { result ≡ exactly WIDTH (fields_at place bytes.now) }
-{
-    let mut fields = [Field { start: 0, len: 0 }; WIDTH];
-    let mut count = 0;
-    let mut start = place;
-    for (i, b) in bytes.iter().enumerate() {
-        if *b != b',' {
-            continue;
-        }
-        if count == WIDTH {
-            return None;
-        }
-        fields[count] = Field {
-            start,
-            len: place + i - start,
-        };
-        count += 1;
-        start = place + i + 1;
-    }
-    if count + 1 != WIDTH {
-        return None;
-    }
-    fields[count] = Field {
-        start,
-        len: place + bytes.len() - start,
-    };
-    Some(fields)
 }
