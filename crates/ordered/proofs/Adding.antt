@@ -1,32 +1,50 @@
--- What an adding answers on each way, and what putting x in at its place leaves.
-use Rattle.std.proofs.Common.{◌≡◌, ℕ, ◌+◌, ◌<◌, Bool, true, false, cond, List, ◌∷◌, ◌++◌, length, take, drop, Some, Ok, Err, Result, Ordering, sym, ap, ◌∙◌, arith}
-use Rattle.std.proofs.lemmas.List.{drop-drop, at_drop_more, at_drop_all}
-use Rattle.ordered.specs.Insertion.{member_by, insert_by, Placed}
+-- What putting x in at its place leaves, and what an answer says.
+use Rattle.std.proofs.Common.{◌≡◌, ℕ, ◌+◌, ◌<◌, Bool, true, false, not, ◌||◌, cond, List, [], ◌∷◌, ◌++◌, length, take, drop, Ok, Err, Result, sym, refl, ap, ◌∙◌, subst, Ordering}
+use Rattle.std.specs.Cmp.{IsTotalOrder}
+use Rattle.std.specs.Ordering.{eq_by_cmp}
+use Rattle.std.specs.List.Sorted.{IsStrictlySortedBy}
+use Rattle.std.specs.BTreeSet.{insert_key}
+use Rattle.std.specs.Set.{is_member}
+use Rattle.std.proofs.lemmas.List.{at_drop_more}
+use Rattle.ordered.specs.Insertion.{Placed}
 use Rattle.ordered.specs.Lists.{members, spare, admitted, answer}
 use Rattle.ordered.specs.declared.full.Full.{Full}
 use Rattle.ordered.specs.declared.list.OrderedList.{OrderedList}
-use Rattle.ordered.proofs.Counting.{take_count, drop_count}
+use Rattle.ordered.proofs.Membership.{rising_insert, member_insert}
 
-module _ {A C : Type 0} (content : A → C) (order : C → C → Ordering) (x : A) (l : OrderedList A) where
-  answered : (b : Bool) → member_by content order x (members l) ≡ b → cond b (Ok false) (admitted (spare l)) ≡ answer content order x l
-  answered b m = ap (λ (v : Bool). cond {A = Result Bool Full} v (Ok false) (admitted (spare l))) (sym m)
+-- x is put in at p among the first n of s, which leaves t
+module _ {A : Type 0} {eq : A → A → Bool} {cmp : A → A → Ordering} (o : IsTotalOrder cmp) (ties : (x y : A) → eq x y ≡ eq_by_cmp cmp x y)
+    (x : A) (n p : ℕ) (s t : List A) (at : Placed eq cmp x (take n s) (Err p))
+    (front : take (n + 1) t ≡ take p (take n s) ++ x ∷ drop p (take n s)) where
+  put_in : take (n + 1) t ≡ insert_key cmp (take n s) x
+  put_in = front ∙ sym at.2
 
-  pub known : member_by content order x (members l) ≡ true → Ok false ≡ answer content order x l
-  known m = answered true m
+  pub still_rising : IsStrictlySortedBy cmp (take n s) → IsStrictlySortedBy cmp (take (n + 1) t)
+  still_rising h = subst (IsStrictlySortedBy cmp) (sym put_in) (rising_insert o ties x (take n s) h)
 
-  module _ (k : ℕ) (e : k ≡ length (members l)) (m : member_by content order x (members l) ≡ false) where
-    new : admitted (drop k l.store.now) ≡ answer content order x l
-    new = ap admitted (drop_count l.len k l.store.now e) ∙ answered false m
+  pub one_more : (q : A) → is_member eq (take (n + 1) t) q ≡ (is_member eq (take n s) q || eq q x)
+  one_more q = ap (λ (ys : List A). is_member eq ys q) put_in ∙ member_insert o ties x (take n s) q
 
-    pub full : k ≡ length l.store.now → Err (record {}) ≡ answer content order x l
-    full f = sym (at_drop_all admitted l.store.now k (omega arith)) ∙ new
+  pub had_room : n < length s → Ok true ≡ cond (is_member eq (take n s) x) (Ok false) (admitted (drop n s))
+  had_room lt =
+      sym (at_drop_more admitted s n x lt)
+      ∙ ap (λ (b : Bool). cond {A = Result Bool Full} b (Ok false) (admitted (drop n s))) (sym at.1)
 
-    pub room : k < length l.store.now → Ok true ≡ answer content order x l
-    room f = sym (at_drop_more admitted l.store.now k x f) ∙ new
+module _ {A : Type 0} {o : _} {e : _} {p : _} (eq : A → A → Bool) (x : A) (l : OrderedList A o e p) where
+  -- what is new is told
+  pub told_new : (new : Bool) → Ok new ≡ answer eq x l → new ≡ not (is_member eq (members l) x)
+  told_new new h = go (is_member eq (members l) x) (spare l) h
+    where
+      go : (b : Bool) (free : List A) → Ok new ≡ cond b (Ok false) (admitted free) → new ≡ not b
+      go true free k = cc
+      go false [] k = cc
+      go false (y ∷ free) k = cc
 
-  module _ (k : ℕ) (t : List A) (e : k ≡ length (members l)) where
-    pub put_in : (p : ℕ) → Placed content order x (members l) (Some p) → take (k + 1) t ≡ take p (take k l.store.now) ++ x ∷ drop p (take k l.store.now) → take (k + 1) t ≡ insert_by content order x (members l)
-    put_in p h f = f ∙ ap (λ (ys : List A). take p ys ++ x ∷ drop p ys) (take_count l.len k l.store.now e) ∙ sym h.2
-
-    pub left_over : drop (k + 1) t ≡ drop (k + 1) l.store.now → drop (k + 1) t ≡ drop 1 (spare l)
-    left_over f = f ∙ sym (drop-drop 1 k l.store.now) ∙ ap (drop 1) (drop_count l.len k l.store.now e)
+  -- what is refused is new, and finds no place
+  pub told_full : (f : Full) → Err f ≡ answer eq x l → (is_member eq (members l) x ≡ false) × (spare l ≡ [])
+  told_full f h = go (is_member eq (members l) x) (spare l) h
+    where
+      go : (b : Bool) (free : List A) → Err f ≡ cond b (Ok false) (admitted free) → (b ≡ false) × (free ≡ [])
+      go true free k = cc
+      go false [] k = (refl, refl)
+      go false (y ∷ free) k = cc

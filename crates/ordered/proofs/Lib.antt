@@ -1,5 +1,4 @@
-mod Adding
-mod Counting
+pub mod Adding
 pub mod Membership
 mod Opening
 mod Placing

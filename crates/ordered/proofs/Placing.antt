@@ -1,61 +1,43 @@
--- The first member that is not less than x decides where x goes.
-use Rattle.std.proofs.Common.{◌≡◌, ℕ, ◌+◌, ◌<◌, Bool, true, false, not, List, [], ◌∷◌, ◌++◌, length, get_or, take, drop, is_some, Some, None, Option, Ordering, Less, Equal, Greater, sym, ap, ◌∙◌, append_assoc, arith}
-use mathlib.Core.Bool.{not-not}
-use Rattle.std.specs.Ordering.{MatchOrdering}
-use Rattle.std.proofs.lemmas.List.{take_more, drop_more, drop_all, take-append-drop}
-use Rattle.ordered.specs.Insertion.{ranked, member_by, insert_by, Placed}
+-- What a binary search of a list in order finds.
+use Rattle.std.proofs.Common.{◌≡◌, ℕ, zero, suc, ◌+◌, ◌≤◌, Bool, false, List, [], ◌∷◌, ◌++◌, length, get_or, take, drop, Ok, Err, Result, Ordering, Less, Equal, Greater, refl, ap, ◌∙◌, arith}
+use Rattle.std.specs.Cmp.{IsTotalOrder}
+use Rattle.std.specs.Ordering.{eq_by_cmp, is_lt, ordering_index, match_ordering}
+use Rattle.std.specs.List.Sorted.{IsStrictlySortedBy, IsNonDecreasingBy, IsPartitionPoint, IsBinarySearchResult, IsSearchInRange}
+use Rattle.std.specs.BTreeSet.{insert_key}
+use Rattle.std.specs.Set.{is_member}
+use Rattle.std.proofs.lemmas.Bool.{or_from}
+use Rattle.std.proofs.lemmas.List.Folds.{list_any_at}
+use Rattle.std.proofs.lemmas.List.Sorted.{searchable_from_sorted}
+use Rattle.std.proofs.lemmas.Map.Keys.{Less-from_sorted}
+use Rattle.ordered.specs.Insertion.{Placed}
+use Rattle.ordered.proofs.Membership.{turned, tested, insert_known}
 
-module _ {A C : Type 0} (content : A → C) (order : C → C → Ordering) (x : A) (xs : List A) where
-  -- what is left to decide from i on
-  abbrev pub From : ℕ → Type 0
-  From i =
-      (member_by content order x xs ≡ member_by content order x (drop i xs))
-      × (insert_by content order x xs ≡ take i xs ++ insert_by content order x (drop i xs))
+module _ {A : Type 0} {eq : A → A → Bool} {cmp : A → A → Ordering} (o : IsTotalOrder cmp) (ties : (x y : A) → eq x y ≡ eq_by_cmp cmp x y) (x : A) where
+  searchable : (xs : List A) → IsStrictlySortedBy cmp xs → IsNonDecreasingBy (λ y. ordering_index (cmp y x)) xs
+  searchable xs h =
+      searchable_from_sorted o (λ y. y) xs x
+      (λ k d a b. ap is_lt (turned o ties (get_or xs k d) (get_or xs (k + 1) d) Less (Less-from_sorted cmp xs k (k + 1) d h (omega arith) b)))
 
-  module _ (i : ℕ) (y : A) (lt : i < length xs) (is : y ≡ get_or xs i y) where
-    abbrev rest : List A
-    rest = drop (i + 1) xs
+  abbrev Gap : List A → ℕ → Type 0
+  Gap xs p = (is_member eq xs x ≡ false) × (insert_key cmp xs x ≡ take p xs ++ x ∷ drop p xs)
 
-    here : drop i xs ≡ y ∷ rest
-    here = drop_more xs i y lt ∙ ap (λ (t : A). t ∷ rest) (sym is)
-
-    module _ (o : Ordering) (e : order (content x) (content y) ≡ o) (h : From i) where
-      met : member_by content order x xs ≡ ranked o false true (member_by content order x rest)
-      met =
-          h.0 ∙ ap (member_by content order x) here
-          ∙ ap (λ (v : Ordering). ranked v false true (member_by content order x rest)) e
-
-      put : insert_by content order x xs ≡ take i xs ++ ranked o (x ∷ (y ∷ rest)) (y ∷ rest) (y ∷ insert_by content order x rest)
-      put =
-          h.1
-          ∙ ap (λ (t : List A). take i xs ++ t)
-          (ap (insert_by content order x) here ∙ ap (λ (v : Ordering). ranked v (x ∷ (y ∷ rest)) (y ∷ rest) (y ∷ insert_by content order x rest)) e)
-
-    pub from_one : (o : Ordering) → order (content x) (content y) ≡ o → From i → MatchOrdering o (Placed content order x xs (Some i)) (Placed content order x xs None) (From (i + 1))
-    from_one Less e h =
-        (omega arith, met Less e h, put Less e h ∙ ap (λ (t : List A). take i xs ++ x ∷ t) (sym here))
-    from_one Equal e h =
-        (met Equal e h, put Equal e h ∙ ap (λ (t : List A). take i xs ++ t) (sym here) ∙ take-append-drop i xs)
-    from_one Greater e h =
-        let front : take (i + 1) xs ≡ take i xs ++ y ∷ [] = take_more xs i y lt ∙ ap (λ (t : A). take i xs ++ t ∷ []) (sym is) in (
-          met Greater e h,
-          put Greater e h ∙ sym (append_assoc (take i xs) (y ∷ []) (insert_by content order x rest))
-              ∙ ap (λ (t : List A). t ++ insert_by content order x rest) (sym front),
-        )
-
-  -- all are less
-  pub from_none : (n : ℕ) → length xs ≡ n → From n → Placed content order x xs (Some n)
-  from_none n l h =
-      let e = drop_all n xs (omega arith) in (
-        omega arith,
-        h.0 ∙ ap (member_by content order x) e,
-        h.1 ∙ ap (λ (t : List A). take n xs ++ t) (ap (insert_by content order x) e ∙ ap (λ (t : List A). x ∷ t) (sym e)),
+  -- between the less and the greater
+  gap : (xs : List A) (p : ℕ) → p ≤ length xs → IsPartitionPoint (λ y. cmp y x ≡ Less) (λ y. cmp y x ≡ Greater) xs p → Gap xs p
+  gap [] zero lt h = (refl, refl)
+  gap [] (suc p) lt h = absurd (omega arith)
+  gap (y ∷ ys) zero lt h =
+      let e : cmp x y ≡ Less = turned o ties y x Greater (h.1 0 y (omega arith) (omega arith)) in
+      let below = gap ys zero (omega arith) ((λ k d a b. absurd (omega arith)), λ k d a b. h.1 (suc k) d (omega arith) (omega arith)) in
+      (or_from (eq x y) (is_member eq ys x) (tested o ties x y Less e) below.0, ap (λ r. match_ordering r (x ∷ y ∷ ys) (y ∷ ys) (y ∷ insert_key cmp ys x)) e)
+  gap (y ∷ ys) (suc p) lt h =
+      let e : cmp x y ≡ Greater = turned o ties y x Less (h.0 0 y (omega arith) (omega arith)) in
+      let below = gap ys p (omega arith) ((λ k d a b. h.0 (suc k) d (omega arith) (omega arith)), λ k d a b. h.1 (suc k) d (omega arith) (omega arith)) in (
+        or_from (eq x y) (is_member eq ys x) (tested o ties x y Greater e) below.0,
+        ap (λ r. match_ordering r (x ∷ y ∷ ys) (y ∷ ys) (y ∷ insert_key cmp ys x)) e ∙ ap (λ zs. y ∷ zs) below.1,
       )
 
-  missing : (r : Option ℕ) → Placed content order x xs r → member_by content order x xs ≡ not (is_some r)
-  missing None h = h.0
-  missing (Some p) h = h.1
-
-  -- no place is asked for exactly if the content is there
-  pub no_place : (r : Option ℕ) (b : Bool) → Placed content order x xs r → is_some r ≡ not b → b ≡ member_by content order x xs
-  no_place r b h e = sym (missing r h ∙ ap not e ∙ not-not b)
+  pub placed : (xs : List A) (r : Result ℕ ℕ) → IsStrictlySortedBy cmp xs → IsSearchInRange r (length xs) → IsBinarySearchResult (λ y. cmp y x) xs r → Placed eq cmp x xs r
+  placed xs (Ok p) h lt at =
+      let found = list_any_at (eq x) xs p x lt (tested o ties x (get_or xs p x) Equal (turned o ties (get_or xs p x) x Equal (at x))) in
+      (found, insert_known o ties x xs h found)
+  placed xs (Err p) h le at = let g = gap xs p le (at (searchable xs h)) in (le, g.0, g.1)

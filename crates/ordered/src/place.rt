@@ -1,23 +1,5 @@
-// Where an element goes into a list in order, and how room is made for it there.
+//! How room is made for an element at its place.
 ghost use Rattle.std.specs.Prelude.{◌≡◌, ◌+◌, ◌<◌, ◌≤◌, ◌∷◌, ◌++◌, length, take, drop};
-ghost use Rattle.ordered.specs.Insertion.{Placed};
-
-use crate::order::TotalOrder;
-use std::cmp::Ordering;
-
-// None if an element of the same content is there already.
-pub(crate) fn insertion_point<E: TotalOrder>(members: &[E], x: &E) -> Option<usize>
-    ensures { Placed E.TotalOrder.content E.TotalOrder.order x.now members.now result }
-{
-    for i in 0..members.len() {
-        match x.compare(&members[i]) {
-            Ordering::Less => return Some(i),
-            Ordering::Equal => return None,
-            Ordering::Greater => {}
-        }
-    }
-    Some(members.len())
-}
 
 // Puts x in at p among the first len, which grow by one place. What lies past that is left alone.
 pub(crate) fn insert_at<E: Drop>(store: &mut [E], len: usize, p: usize, x: E)

@@ -9,8 +9,8 @@ fn adds(
     members: &[(usize, usize)],
 ) {
     let mut list = OrderedList::new(store);
-    for step in steps {
-        assert_eq!(rt; list.add(step.0), step.1, "{what}");
+    for &(pair, answer) in steps {
+        assert_eq!(rt; list.add(pair), answer, "{what}");
     }
     assert_eq!(rt; list.members(), members, "{what}");
 }
