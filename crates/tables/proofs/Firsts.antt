@@ -1,5 +1,5 @@
 -- Names in the order of first appearance are distinct.
-use Rattle.std.proofs.Common.{◌≡◌, ℕ, zero, suc, ◌<◌, ◌≤◌, true, false, List, [], ◌∷◌, ◌++◌, length, get_or, fold, sym, refl, ap, ◌∙◌, inl, inr, arith}
+use Rattle.std.proofs.Common.{◌≡◌, ℕ, zero, suc, ◌<◌, ◌≤◌, true, false, List, [], ◌∷◌, ◌++◌, length, get_or, fold, sym, ap, ◌∙◌, inl, inr, arith}
 use Rattle.std.proofs.lemmas.List.{get_or_append_left, get_or_push, length_push}
 use Rattle.std.proofs.lemmas.Bool.{both_ways, cases_lt, cond_both, or_left, or_right}
 use Rattle.tables.specs.Tabulating.{one_of, with_name, firsts}
@@ -44,7 +44,3 @@ distinct_from seen (x ∷ xs) d =
 
 pub distinct_firsts : (xs : List (List ℕ)) → Distinct (firsts xs)
 distinct_firsts xs = distinct_from [] xs (λ m n h k e. absurd (omega arith))
-
-pub folded_append : {A B : Type 0} (f : B → A → B) (a : B) (xs ys : List A) → fold f a (xs ++ ys) ≡ fold f (fold f a xs) ys
-folded_append f a [] ys = refl
-folded_append f a (x ∷ xs) ys = folded_append f (f a x) xs ys

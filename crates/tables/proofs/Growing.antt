@@ -3,21 +3,21 @@ use Rattle.std.proofs.Common.{◌≡◌, ℕ, ◌<◌, ◌≤◌, true, ◌⊎�
 use Rattle.lines.specs.declared.field.Field.{Field}
 use Rattle.lines.specs.Fields.{bytes_of}
 use Rattle.std.proofs.lemmas.List.{get_or_past}
+use Rattle.std.proofs.lemmas.List.Sums.{fold-append}
 use Rattle.std.proofs.lemmas.Bool.{cases_lt}
-use Rattle.std.specs.List.{AllByRecursion}
+use Rattle.std.specs.List.{All}
 use Rattle.tables.specs.declared.row.Access.{Access}
 use Rattle.tables.specs.Naming.{is_name}
 use Rattle.tables.specs.Numbering.{number_of}
 use Rattle.tables.specs.Rowing.{empty_row, lists}
 use Rattle.tables.specs.Entering.{Table}
 use Rattle.tables.specs.Tabulating.{names_of, row_in, with_name}
-use Rattle.tables.proofs.Firsts.{folded_append}
 use Rattle.tables.proofs.Marks.{marks, empty_lists}
 use Rattle.tables.proofs.Numbers.{number_below}
 
 -- at most so many fields, each with a name
 abbrev pub Fitting : ℕ → List ℕ → List Field → Type 0
-Fitting limit text fs = (length fs ≤ limit) × AllByRecursion (λ f. is_name (bytes_of text f) ≡ true) fs
+Fitting limit text fs = (length fs ≤ limit) × All (λ f. is_name (bytes_of text f) ≡ true) fs
 
 -- what holds of the table at any time
 pub record Whole (text : List ℕ) (t : Table) : Type 0 where
@@ -101,7 +101,7 @@ pub record Adds (text : List ℕ) (t u : Table) (es ps cs : List (List ℕ)) (L 
 
 names_on : (xs ys zs ns ms : List (List ℕ)) → ys ≡ fold with_name xs ns → zs ≡ fold with_name ys ms
     → zs ≡ fold with_name xs (ns ++ ms)
-names_on xs ys zs ns ms e f = f ∙ ap (λ seen. fold with_name seen ms) e ∙ sym (folded_append with_name xs ns ms)
+names_on xs ys zs ns ms e f = f ∙ ap (λ seen. fold with_name seen ms) e ∙ sym (fold-append with_name xs ns ms)
 
 -- one addition after another
 pub adds_on : (text : List ℕ) (t u v : Table) (es ps cs es' ps' cs' : List (List ℕ)) (L M N : Listing)

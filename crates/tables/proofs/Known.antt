@@ -1,5 +1,5 @@
 -- What a name that is known has: a number below the count.
-use Rattle.std.proofs.Common.{◌≡◌, ℕ, ◌<◌, ◌≤◌, List, length, Some, None, Ok, Option, arith}
+use Rattle.std.proofs.Common.{◌≡◌, ℕ, ◌<◌, ◌≤◌, List, length, Some, None, Ok, Option, sym, ap, arith}
 use mathlib.Core.Logic.{∥∥₁_elim}
 use native.Mathlib.Bridge.{le_prop}
 use Rattle.lines.specs.declared.field.Field.{Field}
@@ -28,5 +28,7 @@ module _ (table : List ℕ) (t : Table) (exact : ∥ event_table table ≡ Ok t 
   pub few_processes : length t.processes ≤ 16
   few_processes = ∥∥₁_elim exact le_prop (processes_few table t)
 
-  pub process_below : (text : List ℕ) (f : Field) (p : ℕ) → known_in table t.processes text f ≡ Ok p → p < 16
-  process_below text f p e = omega (arith, known_below table t.processes text f p e, few_processes)
+  -- by the names of the processes as they are at hand
+  pub process_below : (names : List Field) → names ≡ t.processes → (known : List ℕ) (text : List ℕ) (f : Field) (p : ℕ)
+      → Ok p ≡ known_in known names text f → p < 16
+  process_below names same known text f p e = omega (arith, known_below known names text f p (sym e), ap length same, few_processes)

@@ -1,5 +1,3 @@
-pub mod Steps
-pub mod Cells
 pub mod Turns
 pub mod Numbers
 pub mod Firsts
@@ -8,8 +6,10 @@ pub mod Growing
 pub mod Adding
 pub mod Settling
 pub mod Recording
+pub mod Heads
 pub mod Tabulated
 pub mod Known
+pub mod PairOrder
 pub mod Ranking
 pub mod Rooming
 pub mod Parting

@@ -2,6 +2,7 @@
 use Rattle.std.proofs.Common.{◌≡◌, ℕ, ◌<◌, true, false, ◌⊎◌, List, [], ◌∷◌, ◌++◌, length, is_some, Some, None, fold, Option, sym, refl, ap, ◌∙◌, inl, inr, arith}
 use Rattle.lines.specs.declared.field.Field.{Field}
 use Rattle.std.proofs.lemmas.Bool.{cond_both, false≢true, or_cases, or_left, or_right}
+use Rattle.std.proofs.lemmas.List.Folds.{list_any-append}
 use Rattle.std.specs.Str.{bytes_eq}
 use Rattle.tables.specs.declared.row.Access.{Access}
 use Rattle.tables.specs.declared.row.Access.TheVariants.{Read, Write}
@@ -12,16 +13,10 @@ use Rattle.tables.proofs.Numbers.{same_refl, same_true, number_below, number_nam
 
 module _ (x : List ℕ) where
   one_left : (xs ys : List (List ℕ)) → one_of x xs ≡ true → one_of x (xs ++ ys) ≡ true
-  one_left [] ys e = absurd (let z : ◌≡◌ {A = ℕ} 0 1 = cc in omega arith)
-  one_left (y ∷ xs) ys e =
-      elim (or_cases (bytes_eq y x) (one_of x xs) e) [
-        | inl s ↦ or_left (bytes_eq y x) (one_of x (xs ++ ys)) s
-        | inr o ↦ or_right (bytes_eq y x) (one_of x (xs ++ ys)) (one_left xs ys o)
-      ]
+  one_left xs ys e = list_any-append (λ y. bytes_eq y x) xs ys ∙ or_left _ (one_of x ys) e
 
   one_right : (xs ys : List (List ℕ)) → one_of x ys ≡ true → one_of x (xs ++ ys) ≡ true
-  one_right [] ys e = e
-  one_right (y ∷ xs) ys e = or_right (bytes_eq y x) (one_of x (xs ++ ys)) (one_right xs ys e)
+  one_right xs ys e = list_any-append (λ y. bytes_eq y x) xs ys ∙ or_right (one_of x xs) _ e
 
   -- a name that was seen, or that comes, is among the names of first appearance
   one_with : (seen : List (List ℕ)) (y : List ℕ) → (one_of x seen ≡ true) ⊎ (y ≡ x) → one_of x (with_name seen y) ≡ true

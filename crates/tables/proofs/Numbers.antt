@@ -1,18 +1,17 @@
 -- Names and their numbers.
-use Rattle.std.proofs.Common.{◌≡◌, ℕ, zero, suc, ◌+◌, ◌-◌, ◌<◌, ◌≤◌, true, false, cond, ◌||◌, leb, ◌⊎◌, List, [], ◌∷◌, ◌++◌, length, is_some, Some, None, Ok, Option, Result, sym, refl, ap, ◌∙◌, subst, inl, inr, add-zero, zero-add, arith}
-use mathlib.Core.HLevel.{Discrete, hedberg}
-use native.Mathlib.Decide.{ℕ_discrete}
-use native.Mathlib.Nat.{sub-zero}
+use Rattle.std.proofs.Common.{◌≡◌, ℕ, zero, suc, ◌+◌, ◌<◌, ◌≤◌, Bool, true, false, cond, ◌||◌, leb, ◌⊎◌, List, [], ◌∷◌, ◌++◌, length, is_some, Some, None, Ok, Option, Result, sym, refl, ap, ◌∙◌, subst, inl, inr, add-zero, zero-add, arith}
 use Rattle.lines.specs.declared.field.Field.{Field}
 use Rattle.lines.specs.Fields.{bytes_of}
-use Rattle.std.proofs.ByRecursion.{All-push}
+use Rattle.std.proofs.lemmas.List.Elements.{All-push}
 use Rattle.std.proofs.lemmas.Slice.Eq.{bytes_eq-Decides}
-use Rattle.std.proofs.lemmas.List.{append-nil, length-append, length_push, map_push}
+use Rattle.std.proofs.lemmas.List.{append-nil, get_or_append_left, length-append, length_push, map_push}
 use Rattle.std.proofs.lemmas.Bool.{cond_both, cond-true, cond-false, leb-false}
-use Rattle.std.specs.List.{AllByRecursion}
+use Rattle.std.specs.List.{All, position_from}
+use Rattle.std.proofs.lemmas.Iterator.Adapters.{position_from-zero}
+use Rattle.std.proofs.lemmas.List.Quantifiers.{position-Some}
 use Rattle.std.specs.Str.{bytes_eq}
 use Rattle.tables.specs.declared.fault.NamesFault.{NamesFault}
-use Rattle.tables.specs.Numbering.{number_from, number_of, enrolled, numbered}
+use Rattle.tables.specs.Numbering.{no_field, number_of, enrolled, numbered}
 use Rattle.tables.specs.Tabulating.{names_of, name_in, one_of, with_name, Numbers}
 use Rattle.tables.proofs.Turns.{ok_same}
 
@@ -23,81 +22,71 @@ pub same_refl : (xs : List ℕ) → bytes_eq xs xs ≡ true
 same_refl xs = (bytes_eq-Decides xs xs).1 refl
 
 module _ (text : List ℕ) where
-  -- what has a number stands at it; the numbers begin at n
-  from_at : (n : ℕ) (fs : List Field) (x : List ℕ) (i : ℕ) → number_from n text fs x ≡ Some i
-      → (n ≤ i) × (i < n + length fs) × (name_in text fs (i - n) ≡ x)
-  from_at n [] x i e = let z : ◌≡◌ {A = ℕ} 0 1 = cc in absurd (omega arith)
-  from_at n (f ∷ fs) x i e =
-      cond_both (bytes_eq (bytes_of text f) x) _ _
-      (λ (o : Option ℕ). o ≡ Some i → (n ≤ i) × (i < n + suc (length fs)) × (name_in text (f ∷ fs) (i - n) ≡ x))
-      (λ s e.
-      let k : n ≡ i = cc in
-      let z : i - n ≡ 0 = omega arith in
-      (omega arith, omega arith, rw z (same_true (bytes_of text f) x s)))
-      (λ _ e.
-      let k = from_at (n + 1) fs x i e in
-      let z : i - n ≡ suc (i - (n + 1)) = omega (arith, k.0) in
-      (omega (arith, k.0), omega (arith, k.1), rw z k.2))
-      e
+  abbrev is : List ℕ → Field → Bool
+  is x f = bytes_eq (bytes_of text f) x
+
+  by_turns : (fs : List Field) (x : List ℕ) → number_of text fs x ≡ position_from (is x) 0 fs
+  by_turns fs x = position_from-zero (is x) fs
 
   -- more names behind leave a number as it is
-  from_more : (n : ℕ) (fs gs : List Field) (x : List ℕ) (i : ℕ) → number_from n text fs x ≡ Some i
-      → number_from n text (fs ++ gs) x ≡ Some i
+  from_more : (n : ℕ) (fs gs : List Field) (x : List ℕ) (i : ℕ) → position_from (is x) n fs ≡ Some i
+      → position_from (is x) n (fs ++ gs) ≡ Some i
   from_more n [] gs x i e = cc
   from_more n (f ∷ fs) gs x i e =
       (elim (bytes_eq (bytes_of text f) x) as (λ b.
-      cond b (Some n) (number_from (n + 1) text fs x) ≡ Some i → cond b (Some n) (number_from (n + 1) text (fs ++ gs) x) ≡ Some i)
+      cond b (Some n) (position_from (is x) (n + 1) fs) ≡ Some i → cond b (Some n) (position_from (is x) (n + 1) (fs ++ gs)) ≡ Some i)
       [ true ↦ λ e. e | false ↦ λ e. from_more (n + 1) fs gs x i e ]) e
 
   -- a name that none of them is has its number among those behind
-  from_none : (n : ℕ) (fs gs : List Field) (x : List ℕ) → number_from n text fs x ≡ None
-      → number_from n text (fs ++ gs) x ≡ number_from (n + length fs) text gs x
+  from_none : (n : ℕ) (fs gs : List Field) (x : List ℕ) → position_from (is x) n fs ≡ None
+      → position_from (is x) n (fs ++ gs) ≡ position_from (is x) (n + length fs) gs
   from_none n [] gs x e = rw add-zero
   from_none n (f ∷ fs) gs x e =
       (elim (bytes_eq (bytes_of text f) x) as (λ b.
-      cond b (Some n) (number_from (n + 1) text fs x) ≡ None → cond b (Some n) (number_from (n + 1) text (fs ++ gs) x) ≡ number_from (n + suc (length fs)) text gs x) [
+      cond b (Some n) (position_from (is x) (n + 1) fs) ≡ None → cond b (Some n) (position_from (is x) (n + 1) (fs ++ gs)) ≡ position_from (is x) (n + suc (length fs)) gs) [
         | true ↦ λ e. cc
         | false ↦ λ e.
             let z : n + 1 + length fs ≡ n + suc (length fs) = omega arith in
-            from_none (n + 1) fs gs x e ∙ ap (λ m. number_from m text gs x) z
+            from_none (n + 1) fs gs x e ∙ ap (λ m. position_from (is x) m gs) z
       ]) e
 
   -- a name that stands among them has a number
-  from_found : (n : ℕ) (fs : List Field) (i : ℕ) → i < length fs → (j : ℕ) × (number_from n text fs (name_in text fs i) ≡ Some j)
+  from_found : (n : ℕ) (fs : List Field) (i : ℕ) → i < length fs → (j : ℕ) × (position_from (is (name_in text fs i)) n fs ≡ Some j)
   from_found n [] i h = absurd (omega arith)
   from_found n (f ∷ fs) zero h = (n, cond-true _ _ _ (same_refl (bytes_of text f)))
   from_found n (f ∷ fs) (suc i) h =
       let k = from_found (n + 1) fs i (omega arith) in
-      cond_both (bytes_eq (bytes_of text f) (name_in text fs i)) (Some n) (number_from (n + 1) text fs (name_in text fs i))
+      cond_both (bytes_eq (bytes_of text f) (name_in text fs i)) (Some n) (position_from (is (name_in text fs i)) (n + 1) fs)
       (λ (o : Option ℕ). (j : ℕ) × (o ≡ Some j)) (λ _. (n, refl)) (λ _. k)
 
-  from_known : (n : ℕ) (fs : List Field) (x : List ℕ) → one_of x (names_of text fs) ≡ is_some (number_from n text fs x)
+  from_known : (n : ℕ) (fs : List Field) (x : List ℕ) → one_of x (names_of text fs) ≡ is_some (position_from (is x) n fs)
   from_known n [] x = refl
   from_known n (f ∷ fs) x =
-      elim (bytes_eq (bytes_of text f) x) as (λ b. (b || one_of x (names_of text fs)) ≡ is_some (cond b (Some n) (number_from (n + 1) text fs x)))
+      elim (bytes_eq (bytes_of text f) x) as (λ b. (b || one_of x (names_of text fs)) ≡ is_some (cond b (Some n) (position_from (is x) (n + 1) fs)))
       [ true ↦ refl | false ↦ from_known (n + 1) fs x ]
 
 module _ (text : List ℕ) (fs : List Field) (x : List ℕ) where
   -- a number is below the count, and the name stands at it
   pub number_below : (i : ℕ) → number_of text fs x ≡ Some i → i < length fs
-  number_below i e = omega (arith, (from_at text 0 fs x i e).1)
+  number_below i e = (position-Some (is text x) fs i no_field e).0
 
   pub number_name : (i : ℕ) → number_of text fs x ≡ Some i → name_in text fs i ≡ x
-  number_name i e = rw sub-zero at (from_at text 0 fs x i e).2
+  number_name i e = same_true _ x (position-Some (is text x) fs i no_field e).1
 
   pub number_more : (gs : List Field) (i : ℕ) → number_of text fs x ≡ Some i → number_of text (fs ++ gs) x ≡ Some i
-  number_more gs i e = from_more text 0 fs gs x i e
-
-  -- a number below the first names is theirs
-  pub number_front : (gs : List Field) (i : ℕ) → i < length fs → number_of text (fs ++ gs) x ≡ Some i → number_of text fs x ≡ Some i
-  number_front gs i h e = go (number_of text fs x) refl
-    where
-      go : (o : Option ℕ) → number_of text fs x ≡ o → o ≡ Some i
-      go (Some j) k = sym (from_more text 0 fs gs x j k) ∙ e
-      go None k = absurd (omega (arith, (from_at text (0 + length fs) gs x i (sym (from_none text 0 fs gs x k) ∙ e)).0))
+  number_more gs i e = by_turns text (fs ++ gs) x ∙ from_more text 0 fs gs x i (sym (by_turns text fs x) ∙ e)
 
   pub known_number : one_of x (names_of text fs) ≡ is_some (number_of text fs x)
-  known_number = from_known text 0 fs x
+  known_number = from_known text 0 fs x ∙ ap is_some (sym (by_turns text fs x))
+
+-- a number below the first names is theirs
+pub number_front : (text : List ℕ) (fs : List Field) (x : List ℕ) (gs : List Field) (i : ℕ) → i < length fs
+    → number_of text (fs ++ gs) x ≡ Some i → number_of text fs x ≡ Some i
+number_front text fs x gs i h e =
+    let k = from_found text 0 fs i h in
+    let same : name_in text fs i ≡ x = ap (bytes_of text) (sym (get_or_append_left fs gs no_field i h)) ∙ number_name text (fs ++ gs) x i e in
+    let f : number_of text fs x ≡ Some k.0 = ap (number_of text fs) (sym same) ∙ by_turns text fs (name_in text fs i) ∙ k.1 in
+    f ∙ (sym (number_more text fs x gs k.0 f) ∙ e)
 
 -- each number is that of its name
 pub numbers_at : (limit : ℕ) (text : List ℕ) (appearing : List (List ℕ)) (fs : List Field) → Numbers limit text appearing fs
@@ -105,17 +94,8 @@ pub numbers_at : (limit : ℕ) (text : List ℕ) (appearing : List (List ℕ)) (
 numbers_at limit text appearing fs ns n h =
     let k = from_found text 0 fs n h in
     let x = name_in text fs n in
-    k.1 ∙ ap Some (ns.distinct k.0 n (number_below text fs x k.0 k.1) h (number_name text fs x k.0 k.1))
-
-discrete : Discrete (Option ℕ)
-discrete None None = yes refl
-discrete None (Some n) = no (λ e. let z : ◌≡◌ {A = ℕ} 0 1 = cc in omega arith)
-discrete (Some m) None = no (λ e. let z : ◌≡◌ {A = ℕ} 0 1 = cc in omega arith)
-discrete (Some m) (Some n) = elim (ℕ_discrete m n) [ yes e ↦ yes (ap Some e) | no d ↦ no (λ e. d (cc)) ]
-
--- so that a number also follows from what is known to hold without its proof, as a type's invariant is
-pub number_prop : (o p : Option ℕ) → IsProp (o ≡ p)
-number_prop = hedberg discrete
+    let e = by_turns text fs x ∙ k.1 in
+    e ∙ ap Some (ns.distinct k.0 n (number_below text fs x k.0 e) h (number_name text fs x k.0 e))
 
 -- the name of a field has a number, and the names then
 pub record Numbered (text : List ℕ) (names : List Field) (f : Field) (limit n : ℕ) (after : List Field) : Type 0 where
@@ -140,7 +120,10 @@ module _ (text : List ℕ) (names : List Field) (f : Field) (limit place : ℕ) 
   is_new : number_of text names (bytes_of text f) ≡ None → length names < limit → Is (length names, names ++ f ∷ [])
   is_new k l =
       record {
-        number = from_none text 0 names (f ∷ []) (bytes_of text f) k ∙ cond-true _ _ _ (same_refl (bytes_of text f)) ∙ ap Some (zero-add (length names));
+        number =
+            by_turns text (names ++ f ∷ []) (bytes_of text f)
+            ∙ from_none text 0 names (f ∷ []) (bytes_of text f) (sym (by_turns text names (bytes_of text f)) ∙ k)
+            ∙ cond-true _ _ _ (same_refl (bytes_of text f)) ∙ ap Some (zero-add (length names));
         came = inr (refl, refl);
         order = map_push (bytes_of text) names f ∙ sym (cond-false _ _ _ (known_number text names (bytes_of text f) ∙ ap is_some k));
         few = λ h. omega (arith, length_push names f);
@@ -173,9 +156,9 @@ module _ (text : List ℕ) (names : List Field) (f : Field) (limit n : ℕ) (aft
       number_front text names x numbered_more.0 i h (ap (λ fs. number_of text fs x) (sym numbered_more.1) ∙ e)
 
   -- what holds of each name
-  pub numbered_all : (P : Field → Type 0) → P f → AllByRecursion P names → AllByRecursion P after
+  pub numbered_all : (P : Field → Type 0) → P f → All P names → All P after
   numbered_all P p all =
-      elim m.came [ inl e ↦ subst (AllByRecursion P) (sym e) all | inr e ↦ subst (AllByRecursion P) (sym e.0) (All-push P names f all p) ]
+      elim m.came [ inl e ↦ subst (All P) (sym e) all | inr e ↦ subst (All P) (sym e.0) (All-push P names f all p) ]
 
   -- a number below the count was there before, and the count is the next number
   pub numbered_old : n < length names → after ≡ names

@@ -1,52 +1,40 @@
 -- An apart list is what its records say.
-use Rattle.std.proofs.Common.{◌≡◌, ℕ, ◌<◌, ◌≤◌, eqb, ltb, ◌⊎◌, ◌↔◌, List, [], ◌∷◌, length, get_or, Some, Ok, codes, Option, Result, Less, Equal, sym, refl, ap, ◌∙◌, subst, inl, inr, ⊎_elim, arith}
-use borrow.Author.Rules.{of_blocks}
+use Rattle.std.proofs.Common.{◌≡◌, ℕ, ◌<◌, ◌≤◌, eqb, ltb, ◌⊎◌, ◌↔◌, List, [], ◌∷◌, length, get_or, Some, Ok, Option, Result, sym, ap, ◌∙◌, subst, inl, inr, ⊎_elim, arith}
 use Rattle.lines.specs.declared.field.Field.{Field}
-use Rattle.lines.specs.Reading.{opened}
-use Rattle.lines.proofs.Forward.{opened_width}
-use Rattle.ordered.specs.Insertion.{Holds, Rising, member_by, insert_by}
-use Rattle.ordered.specs.Numbers.{pair_order}
-use Rattle.ordered.proofs.Membership.{rises, holds}
-use Rattle.std.proofs.ByRecursion.{All-weaker}
+use Rattle.ordered.proofs.Membership.{all_insert, rising_insert, member_insert}
+use Rattle.tables.proofs.PairOrder.{pairs_total, pairs_tie, pairs_same}
+use Rattle.std.proofs.lemmas.List.Elements.{All-from_recursion, All-weaker}
+use Rattle.std.proofs.lemmas.Bool.Decides.{Decides-or}
+use Rattle.std.proofs.lemmas.Map.Made.{is_member-Decides}
 use Rattle.std.proofs.lemmas.Bool.{cond_both, cond-true, cond-false, eqb-false, le-ltb, lt-ltb}
-use Rattle.std.specs.Ordering.{ordering_reverse}
-use Rattle.std.specs.List.{AllByRecursion}
+use Rattle.std.specs.BTreeSet.{insert_key}
+use Rattle.std.specs.List.{AllByRecursion, Contains}
+use Rattle.std.specs.List.Sorted.{IsStrictlySortedBy}
+use Rattle.std.specs.Set.{is_member}
 use Rattle.tables.specs.declared.fault.NamesFault.{NamesFault}
 use Rattle.tables.specs.Entering.{Table}
-use Rattle.tables.specs.Heading.{headed}
 use Rattle.tables.specs.Knowing.{known_in}
 use Rattle.tables.specs.Listing.{left_of, right_of, NamesBoth, ListsBoth, Apart}
 use Rattle.tables.specs.Numbering.{no_field}
-use Rattle.tables.specs.Pairing.{Pair, itself, as_pair, with_pair, add_pair, apart_header, pairs_in, OfFew}
-use Rattle.tables.specs.Tabulating.{names_of}
-use Rattle.tables.specs.Telling.{lifted}
+use Rattle.tables.specs.Heading.{opened_by}
+use Rattle.tables.specs.Pairing.{Pair, pair_cmp, pair_eq, as_pair, with_pair, add_pair, apart_header, pairs_in, OfFew}
+use Rattle.tables.proofs.Heads.{opened_is}
 use Rattle.tables.proofs.Known.{known_number, known_below}
 use Rattle.tables.proofs.Ranking.{few_pairs}
-use Rattle.tables.proofs.Rooming.{all_insert, pair_of}
-use Rattle.tables.proofs.Tabulated.{lifted_ok, headed_is}
+use Rattle.tables.proofs.Rooming.{pair_of}
 use Rattle.tables.proofs.Turns.{ok_same, and_then_made, add_all, records_read}
-
--- the laws of the order
-pairs_same : (a b : Pair) → pair_order a b ≡ Equal → a ≡ b
-pairs_same a b = search of_blocks
-
-pairs_converse : (a b : Pair) → pair_order b a ≡ ordering_reverse (pair_order a b)
-pairs_converse a b = search of_blocks
-
-pairs_chain : (a b c : Pair) → pair_order a b ≡ Less → pair_order b c ≡ Less → pair_order a c ≡ Less
-pairs_chain a b c = search of_blocks
 
 -- what a pair of two processes is
 module _ (place p q : ℕ) (xs ys : List Pair) where
   abbrev Put : Type 0
-  Put = (p ≡ q → ⊥) × (ys ≡ insert_by itself pair_order (as_pair p q) xs)
+  Put = (p ≡ q → ⊥) × (ys ≡ insert_key pair_cmp xs (as_pair p q))
 
   with_is : with_pair place p q xs ≡ Ok ys → Put
   with_is =
       cond_both (eqb p q) _ _ (λ (o : Result (List Pair) NamesFault). o ≡ Ok ys → Put)
       (λ _ e. let z : ◌≡◌ {A = ℕ} 0 1 = cc in absurd (omega arith))
       (λ n.
-      cond_both (member_by itself pair_order (as_pair p q) xs) _ _ (λ (o : Result (List Pair) NamesFault). o ≡ Ok ys → Put)
+      cond_both (is_member pair_eq xs (as_pair p q)) _ _ (λ (o : Result (List Pair) NamesFault). o ≡ Ok ys → Put)
       (λ _ e. let z : ◌≡◌ {A = ℕ} 0 1 = cc in absurd (omega arith))
       (λ _ e. (eqb-false p q n, sym (ok_same _ ys e))))
 
@@ -67,6 +55,14 @@ module _ (a b p q : ℕ) (h : p < q) where
       (λ (e : (a ≡ p) × (b ≡ q)). cond-true (ltb a b) (a, b) (b, a) (lt-ltb a b (omega arith)) ∙ λ i. (e.0 i, e.1 i))
       (λ (e : (a ≡ q) × (b ≡ p)). cond-false (ltb a b) (a, b) (b, a) (le-ltb a b (omega arith)) ∙ λ i. (e.1 i, e.0 i))
 
+-- what an adding leaves is what was there, and the pair
+one_more : (x : Pair) (xs ys : List Pair) → ys ≡ insert_key pair_cmp xs x → (z : Pair) → Contains ys z ↔ (Contains xs z ⊎ (z ≡ x))
+one_more x xs ys put z =
+    let e = ap (λ (us : List Pair). is_member pair_eq us z) put ∙ member_insert pairs_total pairs_tie x xs z in
+    let after = is_member-Decides pairs_same ys z in
+    let either = Decides-or (is_member pair_eq xs z) (pair_eq z x) (is_member-Decides pairs_same xs z) (pairs_same z x) in
+    (λ c. either.0 (sym e ∙ after.1 c), λ o. after.0 (e ∙ either.1 o))
+
 some_same : (o : Option ℕ) (m n : ℕ) → o ≡ Some m → o ≡ Some n → m ≡ n
 some_same o m n e f = cc
 
@@ -77,13 +73,13 @@ module _ (table : List ℕ) (t : Table) (text : List ℕ) where
 
   -- what was there, and what records list
   pub record Adds (rs : List (List Field)) (xs ys : List Pair) : Type 0 where
-    pub rising : Rising itself pair_order xs → Rising itself pair_order ys
+    pub rising : IsStrictlySortedBy pair_cmp xs → IsStrictlySortedBy pair_cmp ys
     pub within : AllByRecursion Within xs → AllByRecursion Within ys
-    pub listed : (p q : ℕ) → p < q → Holds itself (p, q) ys ↔ (Holds itself (p, q) xs ⊎ ListsBoth table t text p q rs)
+    pub listed : (p q : ℕ) → p < q → Contains ys (p, q) ↔ (Contains xs (p, q) ⊎ ListsBoth table t text p q rs)
 
   record_adds : (r : List Field) (xs ys : List Pair) → add_pair table t text r xs ≡ Ok ys
-      → (Rising itself pair_order xs → Rising itself pair_order ys) × (AllByRecursion Within xs → AllByRecursion Within ys)
-      × ((p q : ℕ) → p < q → Holds itself (p, q) ys ↔ (Holds itself (p, q) xs ⊎ NamesBoth table t text p q r))
+      → (IsStrictlySortedBy pair_cmp xs → IsStrictlySortedBy pair_cmp ys) × (AllByRecursion Within xs → AllByRecursion Within ys)
+      × ((p q : ℕ) → p < q → Contains ys (p, q) ↔ (Contains xs (p, q) ⊎ NamesBoth table t text p q r))
   record_adds r xs ys e =
       let left = and_then_made (known_in table t.processes text (get_or r 0 no_field)) _ ys e in
       let right = and_then_made (known_in table t.processes text (get_or r 1 no_field)) _ ys left.2 in
@@ -92,7 +88,7 @@ module _ (table : List ℕ) (t : Table) (text : List ℕ) where
       let put = with_is (get_or r 1 no_field).start a b xs ys right.2 in
       let is-left : left_of table t text r ≡ Some a = known_number table t.processes text (get_or r 0 no_field) a left.1 in
       let is_right : right_of table t text r ≡ Some b = known_number table t.processes text (get_or r 1 no_field) b right.1 in
-      let one = holds itself pair_order pairs_same pairs_converse pairs_chain (as_pair a b) xs ys put.1 in
+      let one = one_more (as_pair a b) xs ys put.1 in
       let both : (p q : ℕ) → p < q → (as_pair a b ≡ (p, q)) → NamesBoth table t text p q r =
       λ p q h m.
       ⊎_elim (λ (o : (a ≡ p) × (b ≡ q)). inl (is-left ∙ ap Some o.0, is_right ∙ ap Some o.1))
@@ -103,14 +99,14 @@ module _ (table : List ℕ) (t : Table) (text : List ℕ) where
       (⊎_elim
       (λ (o : (left_of table t text r ≡ Some p) × (right_of table t text r ≡ Some q)). inl (some_same _ a p is-left o.0, some_same _ b q is_right o.1))
       (λ (o : (left_of table t text r ≡ Some q) × (right_of table t text r ≡ Some p)). inr (some_same _ a q is-left o.0, some_same _ b p is_right o.1)) m) in (
-        rises itself pair_order pairs_same pairs_converse pairs_chain (as_pair a b) xs ys put.1,
+        λ r. subst (IsStrictlySortedBy pair_cmp) (sym put.1) (rising_insert pairs_total pairs_tie (as_pair a b) xs r),
         λ w.
             subst (AllByRecursion Within) (sym put.1)
-            (all_insert (as_pair a b) Within
+            (all_insert pair_cmp (as_pair a b) Within
             (pair_of (length t.processes) a b (known_below table t.processes text (get_or r 0 no_field) a left.1) (known_below table t.processes text (get_or r 1 no_field) b right.1) put.0) xs w),
         λ p q h. (
-          λ m. ⊎_elim inl (λ k. inr (both p q h k)) ((one (p, q)).0 m),
-          ⊎_elim (λ k. (one (p, q)).1 (inl k)) (λ k. (one (p, q)).1 (inr (back p q h k))),
+          λ m. ⊎_elim inl (λ k. inr (both p q h (sym k))) ((one (p, q)).0 m),
+          ⊎_elim (λ k. (one (p, q)).1 (inl k)) (λ k. (one (p, q)).1 (inr (sym (back p q h k)))),
         ),
       )
 
@@ -134,37 +130,22 @@ module _ (table : List ℕ) (t : Table) (text : List ℕ) where
 
   -- the law
   pub apart_list_lem : length t.processes ≤ 16 → (pairs : List Pair) → pairs_in table t text ≡ Ok pairs → Apart table t text pairs
-  unfolding Apart
+  unfolding Apart IsStrictlySortedBy
   apart_list_lem few pairs e =
-      let o = and_then_made (lifted (opened 2 8192 text)) _ pairs e in
-      let h = and_then_made (apart_header text o.0.0) _ pairs o.2 in
-      let r = records_read 2 (add_pair table t text) text o.0.1 [] pairs h.2 in
-      let op = lifted_ok (opened 2 8192 text) o.0 o.1 in
+      let o = and_then_made (opened_by 8192 apart_header text) _ pairs e in
+      let h = opened_is 8192 apart_header text o.0 o.1 in
+      let r = records_read 2 (add_pair table t text) text o.0 [] pairs o.2 in
       let all = records_add r.0 [] pairs r.2 in
       let up = all.rising tt in
       let in_table = all.within tt in (
-        o.0.0,
+        h.0,
         r.0,
-        (o.0.1, op, r.1),
-        header_is o.0.0 h.0 (opened_width 2 8192 text o.0.0 o.0.1 op) h.1,
+        (o.0, h.1, r.1),
+        h.2,
         record {
           rising = up;
           within = in_table;
-          listed = λ p q k. (λ m. ⊎_elim absurd (λ n. n) ((all.listed p q k).0 m), λ m. (all.listed p q k).1 (inr m));
-          few = few_pairs pairs up (All-weaker Within OfFew (λ x w. (w.0, omega (arith, w.1))) pairs in_table);
+          listed = λ p q k. (λ m. ⊎_elim (λ c. absurd (omega (arith, c.1))) (λ n. n) ((all.listed p q k).0 m), λ m. (all.listed p q k).1 (inr m));
+          few = few_pairs pairs up (All-weaker Within OfFew (λ x w. (w.0, omega (arith, w.1))) pairs (All-from_recursion Within pairs in_table));
         },
       )
-    where
-      two : (fs : List Field) → length fs ≡ 2 → fs ≡ get_or fs 0 no_field ∷ get_or fs 1 no_field ∷ []
-      two [] h = absurd (omega arith)
-      two (a ∷ []) h = absurd (omega arith)
-      two (a ∷ (b ∷ [])) h = refl
-      two (a ∷ (b ∷ (c ∷ fs))) h = absurd (omega arith)
-
-      header_is : (fs : List Field) (u : Unit {0}) → length fs ≡ 2 → apart_header text fs ≡ Ok u
-          → names_of text fs ≡ codes "left" ∷ codes "right" ∷ []
-      header_is fs u h e =
-          let a = and_then_made (headed text (get_or fs 0 no_field) (codes "left")) _ u e in
-          let p = headed_is text (get_or fs 0 no_field) (codes "left") a.0 a.1 in
-          let q = headed_is text (get_or fs 1 no_field) (codes "right") u a.2 in
-          ap (names_of text) (two fs h) ∙ cc

@@ -4,7 +4,8 @@ use Rattle.lines.specs.declared.field.Field.{Field}
 use Rattle.lines.specs.Fields.{bytes_of}
 use Rattle.std.proofs.lemmas.Slice.Eq.{bytes_eq-Decides}
 use Rattle.std.proofs.lemmas.Bool.{cond_both, false≢true, or_cases, or_left, or_right}
-use Rattle.std.specs.List.{AllByRecursion}
+use Rattle.std.proofs.lemmas.List.Elements.{All-nil, All-cons}
+use Rattle.std.specs.List.{All}
 use Rattle.tables.specs.declared.fault.NamesFault.{NamesFault}
 use Rattle.tables.specs.declared.row.Access.{Access}
 use Rattle.tables.specs.declared.row.Access.TheVariants.{Read, Write}
@@ -95,14 +96,14 @@ module _ (text : List ℕ) where
 
   pub records_added : (rs : List (List Field)) (t u : Table) → Whole text t → add_all (add_record text) rs t ≡ Ok u
       → Adds text t u (map (event_in text) rs) (map (process_in text) rs) (all_cells text rs) (λ a x y. Lists text a x y rs)
-      × AllByRecursion (λ r. Ran text u (event_in text r) (process_in text r)) rs
+      × All (λ r. Ran text u (event_in text r) (process_in text r)) rs
   records_added [] t u w e =
-      (subst (λ v. Adds text t v [] [] [] Nothing) (ok_same t u e) (adds_none text t [] [] [] Nothing w refl refl refl (λ a x y l. l)), tt)
+      (subst (λ v. Adds text t v [] [] [] Nothing) (ok_same t u e) (adds_none text t [] [] [] Nothing w refl refl refl (λ a x y l. l)), All-nil _)
   records_added (r ∷ rs) t u w e =
       let p = and_then_made (add_record text r t) _ u e in
       let here = record_added r t p.0 w p.1 in
       let more = records_added rs p.0 u here.0.whole p.2 in (
         adds_on text t p.0 u (event_in text r ∷ []) (process_in text r ∷ []) (cells_of text Read r ++ cells_of text Write r)
             (map (event_in text) rs) (map (process_in text) rs) (all_cells text rs) _ _ _ here.0 more.0 (λ a x y l. l) (λ a x y l. l),
-        (ran_on text p.0 u (event_in text r) (process_in text r) here.0.whole more.0.grows here.1, more.1),
+        All-cons (λ s. Ran text u (event_in text s) (process_in text s)) r rs (ran_on text p.0 u (event_in text r) (process_in text r) here.0.whole more.0.grows here.1) more.1,
       )

@@ -1,29 +1,22 @@
 -- An event table is what its records say.
-use Rattle.std.proofs.Common.{◌≡◌, ℕ, ◌<◌, ◌≤◌, true, List, [], ◌∷◌, map, length, get_or, Some, Ok, Err, codes, Result, sym, refl, ap, ◌∙◌, subst, inl, inr, arith}
-use Rattle.lines.specs.declared.fault.LinesFault.{LinesFault}
+use Rattle.std.proofs.Common.{◌≡◌, ℕ, ◌<◌, ◌≤◌, true, List, [], map, length, get_or, Some, Ok, sym, refl, ap, ◌∙◌, subst, inl, inr, arith}
 use Rattle.lines.specs.declared.field.Field.{Field}
 use Rattle.lines.specs.Fields.{bytes_of}
-use Rattle.lines.specs.Reading.{opened}
-use Rattle.lines.proofs.Forward.{opened_width}
-use Rattle.std.proofs.ByRecursion.{All-get_or, All-weaker}
+use Rattle.std.proofs.lemmas.List.Elements.{All-nil, recursion_from_All}
 use Rattle.std.proofs.lemmas.List.{get_or-map, length-map}
-use Rattle.std.proofs.lemmas.Bool.{cond_both}
-use Rattle.std.specs.List.{AllByRecursion}
-use Rattle.std.specs.Str.{bytes_eq}
-use Rattle.tables.specs.declared.fault.NamesFault.{NamesFault}
+use Rattle.std.specs.List.{All}
 use Rattle.tables.specs.declared.row.Access.{Access}
 use Rattle.tables.specs.Entering.{Table, no_entries, add_record}
-use Rattle.tables.specs.Heading.{headed}
-use Rattle.tables.specs.Naming.{is_name}
+use Rattle.tables.specs.Heading.{opened_by}
 use Rattle.tables.specs.Numbering.{no_field, number_of}
 use Rattle.tables.specs.Rowing.{lists}
 use Rattle.tables.specs.Tabling.{event_header, event_table}
 use Rattle.tables.specs.Tabulating.{names_of, event_in, process_in, all_cells, firsts, name_in, row_in, Lists, Numbers, Tabulates, Tabulated}
-use Rattle.tables.specs.Telling.{lifted}
 use Rattle.tables.proofs.Firsts.{Distinct, distinct_firsts}
+use Rattle.tables.proofs.Heads.{opened_is}
 use Rattle.tables.proofs.Growing.{Fitting, Whole, Listed, Ran, Adds}
 use Rattle.tables.proofs.Marks.{empty_lists, empty_full}
-use Rattle.tables.proofs.Numbers.{same_true, number_name, numbers_at}
+use Rattle.tables.proofs.Numbers.{number_name, numbers_at}
 use Rattle.tables.proofs.Recording.{records_added}
 use Rattle.tables.proofs.Turns.{and_then_made, add_all, records_read}
 
@@ -36,16 +29,16 @@ numbers_from limit text appearing fs e fit =
       order = e;
       distinct = λ m n h k s.
           d m n (omega arith) (omega arith) (get_or-map (bytes_of text) fs m no_field [] h ∙ s ∙ sym (get_or-map (bytes_of text) fs n no_field [] k));
-      named = λ n h. All-get_or (λ f. is_name (bytes_of text f) ≡ true) fs n no_field h fit.1;
+      named = λ n h. fit.1 n no_field h;
       few = fit.0;
     }
 
 none_whole : (text : List ℕ) → Whole text no_entries
 none_whole text =
     record {
-      events = (omega arith, tt);
-      processes = (omega arith, tt);
-      cells = (omega arith, tt);
+      events = (omega arith, All-nil _);
+      processes = (omega arith, All-nil _);
+      cells = (omega arith, All-nil _);
       rows = refl;
       runs = λ e h. absurd (omega arith);
       within = λ a e c h. absurd (empty_lists a c 0 h);
@@ -57,7 +50,7 @@ none_listed text a x y l = empty_lists a l.c 0 l.lists
 
 module _ (text : List ℕ) (rs : List (List Field)) (t : Table) (e : add_all (add_record text) rs no_entries ≡ Ok t) where
   added : Adds text no_entries t (map (event_in text) rs) (map (process_in text) rs) (all_cells text rs) (λ a x y. Lists text a x y rs)
-      × AllByRecursion (λ r. Ran text t (event_in text r) (process_in text r)) rs
+      × All (λ r. Ran text t (event_in text r) (process_in text r)) rs
   added = records_added text rs no_entries t (none_whole text) e
 
   events_numbered : Numbers 64 text (map (event_in text) rs) t.events
@@ -92,7 +85,7 @@ module _ (text : List ℕ) (rs : List (List Field)) (t : Table) (e : add_all (ad
         rows = added.0.whole.rows;
         runs = λ n h. (
           added.0.whole.runs n (omega (arith, added.0.whole.rows)),
-          All-weaker (λ r. Ran text t (event_in text r) (process_in text r)) _ (ran_at n h) rs added.1,
+          recursion_from_All _ rs (λ k d lt. ran_at n h (get_or rs k d) (added.1 k d lt)),
         );
         listed = λ a n c h k. (
           λ is.
@@ -109,50 +102,14 @@ module _ (text : List ℕ) (rs : List (List Field)) (t : Table) (e : add_all (ad
         within = added.0.whole.within;
       }
 
-pub lifted_ok : {X : Type 0} (o : Result X LinesFault) (x : X) → lifted o ≡ Ok x → o ≡ Ok x
-lifted_ok (Ok y) x e = cc
-lifted_ok (Err f) x e = cc
-
-pub headed_is : (text : List ℕ) (f : Field) (name : List ℕ) (u : Unit {0}) → headed text f name ≡ Ok u → bytes_of text f ≡ name
-headed_is text f name u =
-    cond_both (bytes_eq (bytes_of text f) name) _ _ (λ (o : Result (Unit {0}) NamesFault). o ≡ Ok u → bytes_of text f ≡ name)
-    (λ t _. same_true (bytes_of text f) name t) (λ _ e. let z : ◌≡◌ {A = ℕ} 0 1 = cc in absurd (omega arith))
-
-four : (fs : List Field) → length fs ≡ 4
-    → fs ≡ get_or fs 0 no_field ∷ get_or fs 1 no_field ∷ get_or fs 2 no_field ∷ get_or fs 3 no_field ∷ []
-four [] h = absurd (omega arith)
-four (a ∷ []) h = absurd (omega arith)
-four (a ∷ (b ∷ [])) h = absurd (omega arith)
-four (a ∷ (b ∷ (c ∷ []))) h = absurd (omega arith)
-four (a ∷ (b ∷ (c ∷ (d ∷ [])))) h = refl
-four (a ∷ (b ∷ (c ∷ (d ∷ (e ∷ fs))))) h = absurd (omega arith)
-
-header_is : (text : List ℕ) (fs : List Field) (u : Unit {0}) → length fs ≡ 4 → event_header text fs ≡ Ok u
-    → names_of text fs ≡ codes "event" ∷ codes "process" ∷ codes "reads" ∷ codes "writes" ∷ []
-header_is text fs u h e =
-    let a = and_then_made (headed text (get_or fs 0 no_field) (codes "event")) _ u e in
-    let b = and_then_made (headed text (get_or fs 1 no_field) (codes "process")) _ u a.2 in
-    let c = and_then_made (headed text (get_or fs 2 no_field) (codes "reads")) _ u b.2 in
-    let p = headed_is text (get_or fs 0 no_field) (codes "event") a.0 a.1 in
-    let q = headed_is text (get_or fs 1 no_field) (codes "process") b.0 b.1 in
-    let r = headed_is text (get_or fs 2 no_field) (codes "reads") c.0 c.1 in
-    let s = headed_is text (get_or fs 3 no_field) (codes "writes") u c.2 in
-    ap (names_of text) (four fs h) ∙ cc
-
 -- the law
 pub table_tabulated : (text : List ℕ) (t : Table) → event_table text ≡ Ok t → Tabulated text t
 unfolding Tabulated
 table_tabulated text t e =
-    let o = and_then_made (lifted (opened 4 8192 text)) _ t e in
-    let h = and_then_made (event_header text o.0.0) _ t o.2 in
-    let r = records_read 4 (add_record text) text o.0.1 no_entries t h.2 in
-    let op = lifted_ok (opened 4 8192 text) o.0 o.1 in (
-      o.0.0,
-      r.0,
-      (o.0.1, op, r.1),
-      header_is text o.0.0 h.0 (opened_width 4 8192 text o.0.0 o.0.1 op) h.1,
-      tabulates text r.0 t r.2,
-    )
+    let o = and_then_made (opened_by 8192 event_header text) _ t e in
+    let h = opened_is 8192 event_header text o.0 o.1 in
+    let r = records_read 4 (add_record text) text o.0 no_entries t o.2 in
+    (h.0, r.0, (o.0, h.1, r.1), h.2, tabulates text r.0 t r.2)
 
 -- what users of a table want of its numbers
 module _ (text : List ℕ) (t : Table) (e : event_table text ≡ Ok t) where
@@ -165,15 +122,3 @@ module _ (text : List ℕ) (t : Table) (e : event_table text ≡ Ok t) where
 
   pub processes_few : length t.processes ≤ 16
   processes_few = table_says.1.processes.few
-
-  pub cells_few : length t.cells ≤ 64
-  cells_few = table_says.1.cells.few
-
-  pub event_number : (n : ℕ) → n < length t.events → number_of text t.events (name_in text t.events n) ≡ Some n
-  event_number = numbers_at 64 text _ t.events table_says.1.events
-
-  pub process_number : (n : ℕ) → n < length t.processes → number_of text t.processes (name_in text t.processes n) ≡ Some n
-  process_number = numbers_at 16 text _ t.processes table_says.1.processes
-
-  pub cell_number : (n : ℕ) → n < length t.cells → number_of text t.cells (name_in text t.cells n) ≡ Some n
-  cell_number = numbers_at 64 text _ t.cells table_says.1.cells

@@ -95,6 +95,24 @@ module _ {S : Type 0} (width : ℕ) (add : List Field → S → Result S NamesFa
       records_next place s
       ∙ ap (added_by width add text s (records_from width add text)) (read_fault (next_record width text place) f e)
 
+  -- a turn over a text that is known to be this one
+  module _ (bs : List ℕ) (same : bs ≡ text) (place : ℕ) (s : S) where
+    pub turn_fault : (f : LinesFault) → Err f ≡ fields_in (next_record width bs place) → records_from width add text place s ≡ Err (Lines f)
+    turn_fault f e = records_fault place s f (e ∙ ap (λ (xs : List ℕ). fields_in (next_record width xs place)) same)
+
+    module _ (fields : List Field) (e : Ok (Some fields) ≡ fields_in (next_record width bs place)) where
+      pub turn_some : records_from width add text place s
+          ≡ and_then (add fields s) (records_from width add text (place_after place (next_record width bs place)))
+      turn_some =
+          records_some place s fields (e ∙ ap (λ (xs : List ℕ). fields_in (next_record width xs place)) same)
+          ∙ ap (λ (xs : List ℕ). and_then (add fields s) (records_from width add text (place_after place (next_record width xs place)))) (sym same)
+
+      pub turn_on : (u : S) (behind : ℕ) → add fields s ≡ Ok u → behind ≡ place_after place (next_record width bs place)
+          → records_from width add text behind u ≡ records_from width add text place s
+      turn_on u behind a b =
+          ap (λ (p : ℕ). records_from width add text p u) b
+          ∙ sym (turn_some ∙ ap (λ (o : Result S NamesFault). and_then o (records_from width add text (place_after place (next_record width bs place)))) a)
+
   read_on : (n place : ℕ) (s u : S) → length text - place ≤ n → (o : Result (Option (List Field × ℕ)) LinesFault)
       → next_record width text place ≡ o → added_by width add text s (records_from width add text) o ≡ Ok u
       → (rs : List (List Field)) × ReadsOn width text place rs × (add_all add rs s ≡ Ok u)

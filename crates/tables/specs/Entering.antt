@@ -1,5 +1,5 @@
 -- What the records of an event table enter, one after another.
-use Rattle.std.specs.Prelude.{ℕ, Bool, false, cond, List, [], ◌∷◌, ◌++◌, Some, None, Ok, Err, vec_items, Option, Result, ◌==◌, slice_index_or}
+use Rattle.std.specs.Prelude.{ℕ, Bool, false, cond, List, [], ◌∷◌, ◌++◌, Some, None, Ok, Err, Option, Result, ◌==◌, slice_index_or}
 use Rattle.lines.specs.declared.field.Field.{Field}
 use Rattle.lines.specs.Fields.{bytes_of, parted}
 use Rattle.tables.specs.declared.entries.Entries.{Entries}
@@ -14,20 +14,8 @@ use Rattle.tables.specs.Rowing.{empty_row, row_of, rows_with}
 use Rattle.tables.specs.Telling.{and_then}
 
 -- the names by number, each by the field of its first appearance, and the rows of the events
-pub record Table : Type 0 where
-  pub events : List Field
-  pub processes : List Field
-  pub cells : List Field
-  pub rows : List EventRow
-
-abbrev pub entered : Entries → Table
-entered e =
-    record {
-      events = vec_items e.events.fields;
-      processes = vec_items e.processes.fields;
-      cells = vec_items e.cells.fields;
-      rows = vec_items e.rows.rows;
-    }
+abbrev pub Table : Type 0
+Table = Entries
 
 abbrev pub no_entries : Table
 no_entries = record { events = []; processes = []; cells = []; rows = [] }

@@ -1,4 +1,5 @@
 pub mod Refusals
+pub mod Messages
 pub mod Naming
 pub mod Heading
 pub mod Numbering
@@ -10,5 +11,6 @@ pub mod Knowing
 pub mod Pairing
 pub mod Tabling
 pub mod Tabulating
+pub mod Walking
 pub mod Listing
 pub mod Logging

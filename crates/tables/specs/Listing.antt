@@ -3,12 +3,11 @@ use Rattle.std.specs.Prelude.{◌≡◌, ℕ, ◌<◌, ◌≤◌, ◌⊎◌, ◌
 use Rattle.lines.specs.declared.field.Field.{Field}
 use Rattle.lines.specs.Fields.{bytes_of}
 use Rattle.lines.specs.Texts.{Accepted}
-use Rattle.ordered.specs.Insertion.{Holds, Rising}
-use Rattle.ordered.specs.Numbers.{pair_order}
-use Rattle.std.specs.List.{AllByRecursion}
+use Rattle.std.specs.List.{AllByRecursion, Contains}
+use Rattle.std.specs.List.Sorted.{IsStrictlySortedBy}
 use Rattle.tables.specs.Entering.{Table}
 use Rattle.tables.specs.Numbering.{no_field, number_of}
-use Rattle.tables.specs.Pairing.{Pair, itself}
+use Rattle.tables.specs.Pairing.{Pair, pair_cmp}
 use Rattle.tables.specs.Tabulating.{names_of}
 
 -- table is the text of the event table, and text that of the apart list
@@ -32,11 +31,11 @@ module _ (table : List ℕ) (t : Table) (text : List ℕ) where
   -- the pairs are what the records say
   pub record ListsApart (rs : List (List Field)) (pairs : List Pair) : Type 0 where
     -- each once, in rising order
-    pub rising : Rising itself pair_order pairs
+    pub rising : IsStrictlySortedBy pair_cmp pairs
     -- of two processes of the table, the lower number first
     pub within : AllByRecursion (λ x. (x.0 < x.1) × (x.1 < length t.processes)) pairs
     -- just those that a record lists
-    pub listed : (p q : ℕ) → p < q → Holds itself (p, q) pairs ↔ ListsBoth p q rs
+    pub listed : (p q : ℕ) → p < q → Contains pairs (p, q) ↔ ListsBoth p q rs
     pub few : length pairs ≤ 120
 
   -- the text is read to its end as a header and records, and the pairs are what the records say

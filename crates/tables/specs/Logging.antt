@@ -3,21 +3,20 @@ use Rattle.std.specs.Prelude.{◌≡◌, ℕ, ◌↔◌, List, [], ◌∷◌, ma
 use Rattle.lines.specs.declared.fault.LinesFault.{LinesFault}
 use Rattle.lines.specs.declared.field.Field.{Field}
 use Rattle.lines.specs.Fields.{bytes_of}
-use Rattle.lines.specs.Reading.{opened, next_record}
+use Rattle.lines.specs.Reading.{next_record}
 use Rattle.lines.specs.Texts.{ReadsOn}
 use Rattle.tables.specs.declared.fault.NamesFault.{NamesFault}
 use Rattle.tables.specs.declared.fault.NamesFault.TheVariants.{Lines}
+use Rattle.tables.specs.declared.log.LogReader.{LogReader}
 use Rattle.tables.specs.Entering.{Table}
-use Rattle.tables.specs.Heading.{headed}
+use Rattle.tables.specs.Heading.{opened_by}
 use Rattle.tables.specs.Knowing.{known_in}
 use Rattle.tables.specs.Numbering.{no_field, number_of}
-use Rattle.tables.specs.Telling.{and_then, lifted}
+use Rattle.tables.specs.Telling.{and_then}
 
 -- at most 16,384 bytes and the header, which is event; behind it the reader goes on
 abbrev pub opened_log : List ℕ → Result ℕ NamesFault
-opened_log text =
-    and_then (lifted (opened 1 16384 text)) (λ h.
-    and_then (headed text (slice_index_or h.0 0 no_field) (codes "event")) (λ _. Ok h.1))
+opened_log text = opened_by 16384 (codes "event" ∷ []) text
 
 -- table is the text of the event table, and text that of the log
 module _ (table : List ℕ) (t : Table) (text : List ℕ) where
@@ -48,6 +47,10 @@ module _ (table : List ℕ) (t : Table) (text : List ℕ) where
   -- reading a log to its end gives just the numbers of its records' names
   unfoldable pub Logged : ℕ → Type 0
   Logged place = (es : List ℕ) → LogsOn place es ↔ Named place es
+
+-- what a reader reads next
+abbrev pub upcoming : LogReader → Result (Option (ℕ × ℕ)) NamesFault
+upcoming l = next_event l.events.now.text.now l.events.now.entries l.records.text.now l.records.position.place
 
 -- the event of what was read
 abbrev pub event_of : Result (Option (ℕ × ℕ)) NamesFault → Result (Option ℕ) NamesFault

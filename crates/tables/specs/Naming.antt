@@ -1,5 +1,6 @@
 -- What a name is.
-use Rattle.std.specs.Prelude.{ℕ, Bool, true, false, cond, ◌&&◌, ◌||◌, List, [], ◌∷◌, length, Ok, Err, Result, ◌==◌, nat_le}
+use Rattle.std.specs.Prelude.{ℕ, Bool, false, cond, ◌&&◌, ◌||◌, List, [], ◌∷◌, length, Ok, Err, Result, ◌==◌, nat_le}
+use Rattle.std.specs.List.{list_all}
 use Rattle.lines.specs.declared.field.Field.{Field}
 use Rattle.lines.specs.Fields.{bytes_of}
 use Rattle.tables.specs.declared.fault.NamesFault.{NamesFault}
@@ -13,14 +14,10 @@ is_letter b = (nat_le 65 b && nat_le b 90) || ((nat_le 97 b && nat_le b 122) || 
 abbrev pub is_name_byte : ℕ → Bool
 is_name_byte b = is_letter b || ((nat_le 48 b && nat_le b 57) || (b == 45 || b == 46))
 
-abbrev pub all_name_bytes : List ℕ → Bool
-all_name_bytes [] = true
-all_name_bytes (b ∷ bs) = is_name_byte b && all_name_bytes bs
-
 -- 1 to 24 name bytes, of which the first is a letter or the underscore
 abbrev pub is_name : List ℕ → Bool
 is_name [] = false
-is_name (b ∷ bs) = is_letter b && (all_name_bytes (b ∷ bs) && nat_le (length (b ∷ bs)) 24)
+is_name (b ∷ bs) = is_letter b && (list_all is_name_byte (b ∷ bs) && nat_le (length (b ∷ bs)) 24)
 
 -- the field has to be a name
 abbrev pub named : List ℕ → Field → ℕ → Result (Unit {0}) NamesFault

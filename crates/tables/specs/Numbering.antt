@@ -1,7 +1,9 @@
 -- Names by number, in the order of their first appearance.
-use Rattle.std.specs.Prelude.{ℕ, ◌+◌, cond, List, [], ◌∷◌, ◌++◌, length, Some, None, Ok, Err, Option, Result, nat_le, nat_lt, slice_index_or}
+use Rattle.std.specs.Prelude.{ℕ, cond, List, [], ◌∷◌, ◌++◌, length, Some, None, Ok, Err, Option, Result, nat_le, position}
 use Rattle.lines.specs.declared.field.Field.{Field}
 use Rattle.lines.specs.Fields.{bytes_of}
+use Rattle.std.specs.List.{slice_get}
+use Rattle.std.specs.Option.{option_map}
 use Rattle.std.specs.Str.{bytes_eq}
 use Rattle.tables.specs.declared.fault.NamesFault.{NamesFault}
 use Rattle.tables.specs.declared.fault.NamesFault.TheVariants.{TooMany}
@@ -12,15 +14,11 @@ no_field = record { start = 0; len = 0 }
 
 -- the name with a number
 abbrev pub name_at : List ℕ → List Field → ℕ → Option (List ℕ)
-name_at text names n = cond (nat_lt n (length names)) (Some (bytes_of text (slice_index_or names n no_field))) None
+name_at text names n = option_map (bytes_of text) (slice_get names n)
 
--- the number of a name among fields that are numbered from n on
-abbrev pub number_from : ℕ → List ℕ → List Field → List ℕ → Option ℕ
-number_from n text [] name = None
-number_from n text (f ∷ fs) name = cond (bytes_eq (bytes_of text f) name) (Some n) (number_from (n + 1) text fs name)
-
+-- the number of a name: where it stands first
 abbrev pub number_of : List ℕ → List Field → List ℕ → Option ℕ
-number_of text names name = number_from 0 text names name
+number_of text names name = position (λ f. bytes_eq (bytes_of text f) name) names
 
 -- a name that is not known takes the next number, unless the limit is reached
 abbrev pub enrolled : List Field → Field → ℕ → ℕ → Option ℕ → Result (ℕ × List Field) NamesFault

@@ -1,30 +1,31 @@
 -- The pairs of processes that an apart list lists.
-use Rattle.std.specs.Prelude.{◌≡◌, ℕ, ◌+◌, ◌<◌, cond, List, [], ◌++◌, length, drop, Ok, Err, codes, Result, ◌==◌, nat_lt, slice_index_or}
+use Rattle.std.specs.Prelude.{ℕ, ◌<◌, Bool, cond, ◌&&◌, List, [], ◌∷◌, ◌++◌, length, drop, Ok, Err, codes, Result, ◌==◌, nat_lt, slice_index_or}
 use Rattle.lines.specs.declared.fault.LinesFault.TheVariants.{TooLong}
 use Rattle.lines.specs.declared.field.Field.{Field}
-use Rattle.lines.specs.Reading.{opened}
-use Rattle.ordered.specs.declared.list.OrderedList.{OrderedList}
-use Rattle.ordered.specs.Insertion.{Rising, member_by, insert_by}
-use Rattle.ordered.specs.Lists.{members, spare}
-use Rattle.ordered.specs.Numbers.{pair_order}
-use Rattle.std.specs.List.{AllByRecursion}
+use Rattle.std.specs.declared.cmp.Ordering.{Ordering}
+use Rattle.std.specs.BTreeSet.{insert_key}
+use Rattle.std.specs.Ordering.{ordering_then, nat_cmp}
+use Rattle.std.specs.Set.{is_member}
 use Rattle.tables.specs.declared.fault.ApartFault.{ApartFault}
 use Rattle.tables.specs.declared.fault.ApartFault.TheVariants.{Names, ShortStore}
 use Rattle.tables.specs.declared.fault.NamesFault.{NamesFault}
 use Rattle.tables.specs.declared.fault.NamesFault.TheVariants.{Lines, WithItself, Again}
 use Rattle.tables.specs.Entering.{Table}
 use Rattle.tables.specs.Folding.{records_from}
-use Rattle.tables.specs.Heading.{headed}
+use Rattle.tables.specs.Heading.{opened_by}
 use Rattle.tables.specs.Knowing.{known_in}
 use Rattle.tables.specs.Numbering.{no_field}
-use Rattle.tables.specs.Telling.{and_then, lifted}
+use Rattle.tables.specs.Telling.{and_then}
 
 abbrev pub Pair : Type 0
 Pair = ℕ × ℕ
 
--- a pair is ordered by itself
-abbrev pub itself : Pair → Pair
-itself x = x
+-- pairs by the first number, and then by the second
+abbrev pub pair_cmp : Pair → Pair → Ordering
+pair_cmp x y = ordering_then (nat_cmp x.0 y.0) (nat_cmp x.1 y.1)
+
+abbrev pub pair_eq : Pair → Pair → Bool
+pair_eq x y = x.0 == y.0 && x.1 == y.1
 
 -- two processes as a pair, the lower number first
 abbrev pub as_pair : ℕ → ℕ → Pair
@@ -34,7 +35,7 @@ as_pair p q = cond (nat_lt p q) (p, q) (q, p)
 abbrev pub with_pair : ℕ → ℕ → ℕ → List Pair → Result (List Pair) NamesFault
 with_pair place p q pairs =
     cond (p == q) (Err (WithItself place))
-    (cond (member_by itself pair_order (as_pair p q) pairs) (Err (Again place)) (Ok (insert_by itself pair_order (as_pair p q) pairs)))
+    (cond (is_member pair_eq pairs (as_pair p q)) (Err (Again place)) (Ok (insert_key pair_cmp pairs (as_pair p q))))
 
 -- a record: two processes of the event table, whose text is table
 abbrev pub add_pair : List ℕ → Table → List ℕ → List Field → List Pair → Result (List Pair) NamesFault
@@ -43,18 +44,14 @@ add_pair table t text fields pairs =
     and_then (known_in table t.processes text (slice_index_or fields 1 no_field)) (λ q.
     with_pair (slice_index_or fields 1 no_field).start p q pairs))
 
--- the header is left,right; the first field that differs is refused
-abbrev pub apart_header : List ℕ → List Field → Result (Unit {0}) NamesFault
-apart_header text header =
-    and_then (headed text (slice_index_or header 0 no_field) (codes "left")) (λ _.
-    headed text (slice_index_or header 1 no_field) (codes "right"))
+abbrev pub apart_header : List (List ℕ)
+apart_header = codes "left" ∷ codes "right" ∷ []
 
 -- at most 8,192 bytes, the header, and then the records one after another
 abbrev pub pairs_in : List ℕ → Table → List ℕ → Result (List Pair) NamesFault
 pairs_in table t text =
-    and_then (lifted (opened 2 8192 text)) (λ h.
-    and_then (apart_header text h.0) (λ _.
-    records_from 2 (add_pair table t text) text h.1 []))
+    and_then (opened_by 8192 apart_header text) (λ place.
+    records_from 2 (add_pair table t text) text place [])
 
 -- a fault of the names, held whole
 abbrev pub raised : {X : Type 0} → Result X NamesFault → Result X ApartFault
@@ -80,9 +77,3 @@ stored (Err f) store = store
 -- a pair of two of the first 16 processes
 abbrev pub OfFew : Pair → Type 0
 OfFew x = (x.0 < x.1) × (x.1 < 16)
-
--- a list of such pairs over a store that has a place for each there is
-pub record Roomy (l : OrderedList Pair) : Type 0 where
-  pub rising : Rising itself pair_order (members l)
-  pub few : AllByRecursion OfFew (members l)
-  pub room : length (members l) + length (spare l) ≡ 120

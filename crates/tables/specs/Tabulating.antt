@@ -1,9 +1,9 @@
 -- What an event table says of its text: the law above the definitions by which it is read.
-use Rattle.std.specs.Prelude.{◌≡◌, ℕ, ◌<◌, ◌≤◌, Bool, true, false, cond, ◌||◌, ◌⊎◌, List, [], ◌∷◌, ◌++◌, map, length, codes, Decides, fold, slice_index_or}
+use Rattle.std.specs.Prelude.{◌≡◌, ℕ, ◌<◌, ◌≤◌, Bool, true, cond, ◌⊎◌, List, [], ◌∷◌, ◌++◌, map, length, codes, Decides, fold, slice_index_or}
 use Rattle.lines.specs.declared.field.Field.{Field}
 use Rattle.lines.specs.Fields.{bytes_of}
 use Rattle.lines.specs.Texts.{Accepted}
-use Rattle.std.specs.List.{flat_map, AllByRecursion}
+use Rattle.std.specs.List.{flat_map, list_any, AllByRecursion}
 use Rattle.std.specs.Str.{bytes_eq}
 use Rattle.tables.specs.declared.row.Access.{Access}
 use Rattle.tables.specs.declared.row.Access.TheVariants.{Read, Write}
@@ -39,8 +39,7 @@ all_cells text rs = flat_map (λ r. cells_of text Read r ++ cells_of text Write 
 
 -- the name is one of these
 abbrev pub one_of : List ℕ → List (List ℕ) → Bool
-one_of x [] = false
-one_of x (y ∷ ys) = bytes_eq y x || one_of x ys
+one_of x ys = list_any (λ y. bytes_eq y x) ys
 
 -- the names seen, with one that may be new
 abbrev pub with_name : List (List ℕ) → List ℕ → List (List ℕ)

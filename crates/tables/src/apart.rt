@@ -1,45 +1,24 @@
-// Reads an apart list: which processes may run apart.
-ghost use Rattle.std.specs.Prelude.{◌≡◌, ◌<◌, ◌≤◌, length, take, IfOk};
+//! Reads an apart list: which processes may run apart.
+ghost use Rattle.std.specs.Prelude.{◌≡◌, ◌<◌, ◌≤◌, length, take, IfOk, All};
 ghost use Rattle.ordered.specs.Lists.{members};
-ghost use Rattle.tables.specs.Entering.{entered};
 ghost use Rattle.tables.specs.Folding.{records_from};
-ghost use Rattle.tables.specs.Knowing.{known_in};
 ghost use Rattle.tables.specs.Listing.{Apart};
-ghost use Rattle.tables.specs.Pairing.{as_pair, with_pair, add_pair, apart_header, apart_list, counted, stored, Roomy};
+ghost use Rattle.tables.specs.Pairing.{as_pair, with_pair, add_pair, apart_list, counted, stored, OfFew};
 ghost use Rattle.tables.specs.Telling.{leaving};
 
 use crate::events::EventTable;
 use crate::fault::{ApartFault, NamesFault};
-use crate::header::check_header;
-use crate::name::check_name;
+use crate::header::open_headed;
 use lines::fault::LinesFault;
 use lines::field::Field;
 use lines::reader::Records;
 use ordered::{Full, OrderedList};
 
+/// The longest apart list, in bytes.
 pub const APART_LIMIT: usize = 8192;
 
-// As many pairs as 16 processes have.
+/// As many pairs as 16 processes have.
 pub const PAIR_LIMIT: usize = 120;
-
-fn check_apart_header(text: &[u8], header: [Field; 2]) -> Result<(), NamesFault>
-    ensures { result ≡ apart_header text.now header }
-{
-    let [left, right] = header;
-    check_header(text, left, b"left")?;
-    check_header(text, right, b"right")
-}
-
-// The number of the process that a field names.
-fn process_in(events: &EventTable<'_>, text: &[u8], field: Field) -> Result<usize, NamesFault>
-    ensures { result ≡ known_in events.now.text.now (entered events.now.entries).processes text.now field }
-{
-    check_name(text, field, field.start)?;
-    match events.find_process(field.bytes(text)) {
-        Some(process) => Ok(process),
-        None => Err(NamesFault::Unknown(field.start)),
-    }
-}
 
 fn as_pair(p: usize, q: usize) -> (usize, usize)
     ensures { result ≡ as_pair p q }
@@ -47,75 +26,72 @@ fn as_pair(p: usize, q: usize) -> (usize, usize)
     if p < q { (p, q) } else { (q, p) }
 }
 
-// The list has a place for every pair, so it is never full.
-fn add_pair(
-    pairs: &mut OrderedList<'_, (usize, usize)>,
-    p: usize,
-    q: usize,
-    place: usize,
-) -> Result<(), NamesFault>
-    requires { (Roomy pairs.old) × ((p < 16) × (q < 16)) }
-    ensures exact { leaving result (members pairs.new) ≡ with_pair place p q (members pairs.old) }
-    ensures roomy { Roomy pairs.new }
-{
-    if p == q {
-        return Err(NamesFault::WithItself(place));
-    }
-    match pairs.add(as_pair(p, q)) {
-        Ok(new) => {
-            if new {
-                Ok(())
-            } else {
-                Err(NamesFault::Again(place))
-            }
+// The pairs of an apart list, over a store that has a place for each pair there may be.
+#[derive(Drop)]
+struct Pairs<'s> {
+    list: OrderedList<'s, (usize, usize)>,
+    ghost few: { All OfFew (members list) },
+    ghost room: { length list.store.now ≡ 120 },
+}
+
+impl Pairs<'_> {
+    // The store has a place for every pair, so the list is never full.
+    fn add(&mut self, p: usize, q: usize, place: usize) -> Result<(), NamesFault>
+        requires left { p < 16 }
+        requires right { q < 16 }
+        ensures { leaving result (members self.new.list) ≡ with_pair place p q (members self.old.list) }
+    {
+        if p == q {
+            return Err(NamesFault::WithItself(place));
         }
-        Err(Full) => unreachable(),
+        match self.list.add(as_pair(p, q)) {
+            Ok(true) => Ok(()),
+            Ok(false) => Err(NamesFault::Again(place)),
+            Err(Full) => unreachable(),
+        }
+    }
+
+    fn add_record(
+        &mut self,
+        events: &EventTable<'_>,
+        text: &[u8],
+        fields: [Field; 2],
+    ) -> Result<(), NamesFault>
+        ensures { leaving result (members self.new.list) ≡ add_pair events.now.text.now events.now.entries text.now fields (members self.old.list) }
+    {
+        let [left, right] = fields;
+        let processes = events.processes();
+        let p = processes.known(text, left)?;
+        let q = processes.known(text, right)?;
+        self.add(p, q, right.start)
+    }
+
+    // Adds the pairs of the records that are left.
+    fn read(
+        &mut self,
+        events: &EventTable<'_>,
+        mut records: Records<'_, 2>,
+    ) -> Result<(), NamesFault>
+        ensures { leaving result (members self.new.list) ≡ records_from 2 (add_pair events.now.text.now events.now.entries records.entry.text.now) records.entry.text.now records.entry.position.place (members self.old.list) }
+    {
+        let text = records.text();
+        while let Some(fields) = records.next_record()? {
+            self.add_record(events, text, fields)?;
+        }
+        Ok(())
     }
 }
 
-fn add_record(
-    events: &EventTable<'_>,
-    text: &[u8],
-    fields: [Field; 2],
-    pairs: &mut OrderedList<'_, (usize, usize)>,
-) -> Result<(), NamesFault>
-    requires { Roomy pairs.old }
-    ensures exact { leaving result (members pairs.new) ≡ add_pair events.now.text.now (entered events.now.entries) text.now fields (members pairs.old) }
-    ensures roomy { Roomy pairs.new }
-{
-    let [left, right] = fields;
-    let p = process_in(events, text, left)?;
-    let q = process_in(events, text, right)?;
-    add_pair(pairs, p, q, right.start)
-}
-
-// Adds the pairs of the records that are left.
-fn read_pairs(
-    events: &EventTable<'_>,
-    text: &[u8],
-    mut records: Records<'_, 2>,
-    pairs: &mut OrderedList<'_, (usize, usize)>,
-) -> Result<(), NamesFault>
-    requires { (records.text.now ≡ text.now) × (Roomy pairs.old) }
-    ensures exact { leaving result (members pairs.new) ≡ records_from 2 (add_pair events.now.text.now (entered events.now.entries) text.now) text.now records.entry.position.place (members pairs.old) }
-    ensures roomy { Roomy pairs.new }
-{
-    while let Some(fields) = records.next_record()? {
-        add_record(events, text, fields, pairs)?;
-    }
-    Ok(())
-}
-
-// Puts the pairs, in rising order and the lower number of each first, at the front of the store, and says how many there are.
+/// Puts the pairs, in rising order and the lower number of each first, at the front of the store, and says how many there are.
 pub fn read_apart(
     events: &EventTable<'_>,
     text: &[u8],
     store: &mut [(usize, usize)],
 ) -> Result<usize, ApartFault>
-    ensures answers { result ≡ counted (apart_list (length store.old) events.now.text.now (entered events.now.entries) text.now) }
-    ensures puts { store.new ≡ stored (apart_list (length store.old) events.now.text.now (entered events.now.entries) text.now) store.old }
+    ensures answers { result ≡ counted (apart_list (length store.old) events.now.text.now events.now.entries text.now) }
+    ensures puts { store.new ≡ stored (apart_list (length store.old) events.now.text.now events.now.entries text.now) store.old }
     ensures within { IfOk result (λ n. n ≤ length store.old) }
-    ensures lists { IfOk result (λ n. Apart events.now.text.now (entered events.now.entries) text.now (take n store.new)) }
+    ensures lists { IfOk result (λ n. Apart events.now.text.now events.now.entries text.now (take n store.new)) }
 {
     if text.len() > APART_LIMIT {
         return Err(ApartFault::from(LinesFault::TooLong));
@@ -123,13 +99,14 @@ pub fn read_apart(
     if store.len() < PAIR_LIMIT {
         return Err(ApartFault::ShortStore);
     }
-    let records = Records::<2>::open(text, APART_LIMIT)?;
-    check_apart_header(text, records.header())?;
+    let records = open_headed(text, APART_LIMIT, &[b"left", b"right"])?;
     // The store is left alone until the whole list is read.
     let mut found = [(0, 0); PAIR_LIMIT];
-    let mut pairs = OrderedList::new(&mut found);
-    read_pairs(events, text, records, &mut pairs)?;
-    let members = pairs.members();
+    let mut pairs = Pairs {
+        list: OrderedList::new(&mut found),
+    };
+    pairs.read(events, records)?;
+    let members = pairs.list.members();
     let count = members.len();
     store[0..count].copy_from_slice(members);
     Ok(count)

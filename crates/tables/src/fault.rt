@@ -1,4 +1,4 @@
-// Why a text of records is no table.
+//! Why a text of records is no table.
 ghost use Rattle.std.specs.Prelude.{◌≡◌};
 ghost use Rattle.tables.specs.Refusals.{refused, names_refusal, apart_refusal};
 ghost use Rattle.tables.specs.declared.fault.NamesFault.TheVariants.{Lines as OfLines, Memory as OutOfMemory};
@@ -6,9 +6,11 @@ ghost use Rattle.tables.specs.declared.fault.ApartFault.TheVariants.{Names as Of
 
 use lines::fault::{Layer, LinesFault, Refusal};
 use std::alloc::{AllocError, AllocFailed};
+use std::error::Error;
+use std::fmt;
 
-// A fault of the lines below stands whole in `Lines`; the others but the last hold the place of their field.
-#[derive(Clone, Copy)]
+/// A fault of the lines below stands whole in `Lines`; the others but the last hold the place of their field.
+#[derive(Clone, Copy, PartialEq, Eq, Debug)]
 pub enum NamesFault {
     Lines(LinesFault),
     Header(usize),
@@ -32,7 +34,7 @@ fn at(number: u8, place: usize) -> Option<Refusal>
 }
 
 impl NamesFault {
-    // What a user is told; none where it is no fault of the text but memory that was wanting.
+    /// What a user is told; none where it is no fault of the text but memory that was wanting.
     pub fn refusal(self) -> Option<Refusal>
         ensures { result ≡ names_refusal self }
     {
@@ -49,6 +51,32 @@ impl NamesFault {
         }
     }
 }
+
+impl fmt::Display for NamesFault {
+    ghost use Rattle.std.specs.Prelude.{Some};
+    ghost use Rattle.tables.specs.Messages.{names_message};
+
+    ghost output = { λ e. Some (names_message e) };
+
+    fn fmt<W: fmt::Write>(&self, f: &mut fmt::Formatter<W>) -> fmt::Result {
+        match self {
+            NamesFault::Lines(fault) => write!(f, "{fault}"),
+            NamesFault::Header(at) => write!(f, "byte {at}: the header has another name here"),
+            NamesFault::NoName(at) => write!(f, "byte {at}: no name"),
+            NamesFault::TooMany(at) => write!(f, "byte {at}: one name too many"),
+            NamesFault::Unknown(at) => write!(f, "byte {at}: an unknown name"),
+            NamesFault::OtherProcess(at) => write!(
+                f,
+                "byte {at}: another process than the event had before"
+            ),
+            NamesFault::WithItself(at) => write!(f, "byte {at}: a process with itself"),
+            NamesFault::Again(at) => write!(f, "byte {at}: a pair that was listed before"),
+            NamesFault::Memory => f.write_str("out of memory"),
+        }
+    }
+}
+
+impl Error for NamesFault {}
 
 impl From<LinesFault> for NamesFault {
     ghost from_gives = { λ e r. r ≡ OfLines e };
@@ -74,14 +102,15 @@ impl<T: Drop> From<AllocFailed<T>> for NamesFault {
     }
 }
 
-// Why an apart list is not read: a fault of its text, or a store that cannot hold every pair there may be.
-#[derive(Clone, Copy)]
+/// Why an apart list is not read: a fault of its text, or a store that cannot hold every pair there may be.
+#[derive(Clone, Copy, PartialEq, Eq, Debug)]
 pub enum ApartFault {
     Names(NamesFault),
     ShortStore,
 }
 
 impl ApartFault {
+    /// What a user is told; none where memory was wanting. A short store has no place in the text.
     pub fn refusal(self) -> Option<Refusal>
         ensures { result ≡ apart_refusal self }
     {
@@ -95,6 +124,22 @@ impl ApartFault {
         }
     }
 }
+
+impl fmt::Display for ApartFault {
+    ghost use Rattle.std.specs.Prelude.{Some};
+    ghost use Rattle.tables.specs.Messages.{apart_message};
+
+    ghost output = { λ e. Some (apart_message e) };
+
+    fn fmt<W: fmt::Write>(&self, f: &mut fmt::Formatter<W>) -> fmt::Result {
+        match self {
+            ApartFault::Names(fault) => write!(f, "{fault}"),
+            ApartFault::ShortStore => f.write_str("the store is too short"),
+        }
+    }
+}
+
+impl Error for ApartFault {}
 
 impl From<NamesFault> for ApartFault {
     ghost from_gives = { λ e r. r ≡ OfNames e };

@@ -1,4 +1,4 @@
-// Tables of names: what a name is, and the table of events with what each reads and writes.
+//! Tables of names: what a name is, and the table of events with what each reads and writes.
 #![tactic(auto)]
 
 pub mod apart;
@@ -6,7 +6,11 @@ mod entries;
 pub mod events;
 pub mod fault;
 mod header;
+mod laws;
 pub mod log;
 pub mod name;
+pub mod names;
 mod numbering;
 pub mod row;
+
+pub use laws::comparing_pairs;

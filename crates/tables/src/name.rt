@@ -1,11 +1,12 @@
-// What a name is.
+//! What a name is.
 ghost use Rattle.std.specs.Prelude.{◌≡◌};
-ghost use Rattle.tables.specs.Naming.{is_letter, is_name_byte, all_name_bytes, is_name, named};
+ghost use Rattle.std.specs.List.{list_all};
+ghost use Rattle.tables.specs.Naming.{is_letter, is_name_byte, is_name, named};
 
 use crate::fault::NamesFault;
 use lines::field::Field;
 
-// The longest name.
+/// The longest name.
 pub const NAME_LIMIT: usize = 24;
 
 fn is_letter(b: u8) -> bool
@@ -21,17 +22,12 @@ fn is_name_byte(b: u8) -> bool
 }
 
 fn all_name_bytes(bytes: &[u8]) -> bool
-    ensures { result ≡ all_name_bytes bytes.now }
+    ensures { result ≡ list_all is_name_byte bytes.now }
 {
-    for b in bytes {
-        if !is_name_byte(*b) {
-            return false;
-        }
-    }
-    true
+    bytes.iter().all(|b| is_name_byte(*b))
 }
 
-// A letter or underscore, and then at most 23 letters, digits, underscores, hyphens and dots.
+/// A letter or underscore, and then at most 23 letters, digits, underscores, hyphens and dots.
 pub fn is_name(bytes: &[u8]) -> bool
     ensures { result ≡ is_name bytes.now }
 {

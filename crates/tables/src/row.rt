@@ -1,17 +1,16 @@
-// The row of an event: its process, and the cells that it reads and writes.
-ghost use Rattle.std.specs.Prelude.{◌≡◌, true, false, [], ◌∷◌, ◌++◌, is_some, IfSome, is_ok, if◌then◌else◌, vec_len, nat_lt, slice_index_or, slice_set};
-ghost use Rattle.std.specs.Borrow.{sem, follows_if};
-ghost use Rattle.std.specs.Vec.{with_item};
-ghost use Rattle.std.specs.Option.{ghost_name_of as name_of};
+//! The row of an event: its process, and the cells that it reads and writes.
+ghost use Rattle.std.specs.Prelude.{◌≡◌, true, false, [], ◌∷◌, ◌++◌, is_some, IfSome, is_ok, if◌then◌else◌, length, nat_lt, slice_index_or, slice_set};
+ghost use Rattle.std.specs.Borrow.{sem, LendsIf};
 ghost use Rattle.tables.specs.contracts.row.EventRow.{the_row as event_row};
 ghost use Rattle.tables.specs.contracts.row.Rows.{the_row as rows_row};
 ghost use Rattle.tables.specs.Rowing.{with_cell, empty_row, lists, row_of, rows_with};
 
 use std::alloc::{AllocFailed, Global};
+use std::marker::Model;
 
 pub(crate) const CELL_LIMIT: usize = 64;
 
-// What an event does to a cell.
+/// What an event does to a cell.
 #[derive(Clone, Copy, PartialEq, Eq, Debug)]
 pub enum Access {
     Read,
@@ -21,7 +20,7 @@ pub enum Access {
 // A set of cells, by number.
 #[derive(Clone, Copy)]
 pub(crate) struct CellSet {
-    listed: [bool; 64],
+    listed: [bool; CELL_LIMIT],
 }
 
 impl CellSet {
@@ -37,7 +36,7 @@ impl CellSet {
     fn contains(&self, cell: usize) -> bool
         ensures { result ≡ slice_index_or self.now.listed cell false }
     {
-        cell < CELL_LIMIT && self.listed[cell]
+        self.listed.get(cell).copied().unwrap_or(false)
     }
 }
 
@@ -53,7 +52,7 @@ impl EventRow {
         ensures { result ≡ empty_row process }
     {
         let none = CellSet {
-            listed: [false; 64],
+            listed: [false; CELL_LIMIT],
         };
         EventRow {
             process,
@@ -93,9 +92,18 @@ pub(crate) struct Rows {
     rows: Vec<EventRow>,
 }
 
+impl Model for Rows {
+    ghost use Rattle.std.specs.Prelude.{List};
+    ghost use Rattle.tables.specs.declared.row.EventRow.{EventRow};
+
+    ghost Value = { List EventRow };
+
+    ghost view = { λ r. r.rows.items };
+}
+
 impl Rows {
     pub(crate) fn new(heap: Global) -> Rows
-        ensures { result.rows.items ≡ [] }
+        ensures { result ≡ [] }
     {
         Rows {
             rows: Vec::new(heap),
@@ -103,31 +111,28 @@ impl Rows {
     }
 
     pub(crate) fn push(&mut self, row: EventRow) -> Result<(), AllocFailed<EventRow>>
-        ensures { self.new.rows.items ≡ (if is_ok result then self.old.rows.items ++ row ∷ [] else self.old.rows.items) }
+        ensures { self.new ≡ (if is_ok result then self.old ++ row ∷ [] else self.old) }
     {
         self.rows.push(row)
     }
 
     // Lends the row of an event.
     pub(crate) fn row_mut(&mut self, event: usize) -> Option<&mut EventRow>
-        ensures* writes_back { sem 𝓛 (follows_if rows_row event_row self.entry.ghost_name (name_of result) (λ w. record { rows = with_item self.old.rows event w }) self.old) }
-        ensures facts { (is_some result ≡ nat_lt event (vec_len self.old.rows)) × IfSome result (λ x. x.now ≡ slice_index_or self.old.rows.items event x.now) }
+        ensures* writes_back { sem 𝓛 (LendsIf rows_row event_row self.entry result (λ w. slice_set self.old event w) self.old) }
+        ensures facts { (is_some result ≡ nat_lt event (length self.old)) × IfSome result (λ x. x.now ≡ slice_index_or self.old event x.now) }
     {
         self.rows.get_mut(event)
     }
 
     pub(crate) fn get(&self, event: usize) -> Option<EventRow>
-        ensures { result ≡ row_of self.now.rows.items event }
+        ensures { result ≡ row_of self.now event }
     {
-        if event >= self.rows.len() {
-            return None;
-        }
-        Some(self.rows[event])
+        self.rows.get(event).copied()
     }
 
     // Gives the event's row one more cell; a number that is no event's changes nothing.
     pub(crate) fn add_cell(&mut self, event: usize, access: Access, cell: usize)
-        ensures { self.new.rows.items ≡ rows_with access cell event self.old.rows.items }
+        ensures { self.new ≡ rows_with access cell event self.old }
     {
         if let Some(row) = self.row_mut(event) {
             row.add_cell(access, cell);
