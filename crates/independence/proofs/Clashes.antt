@@ -1,28 +1,45 @@
 -- Two events clash on a cell: by the table, and by the records of its text.
-use Rattle.std.specs.Prelude.{◌≡◌, ℕ, ◌+◌, ◌<◌, true, false, not, ◌⊎◌, List, length, Decides, ◌==◌, nat_lt, refl}
-use Rattle.std.proofs.Common.{ap, sym, subst, ◌∙◌, inl, inr, add-one, arith}
+use Rattle.std.specs.Prelude.{◌≡◌, ℕ, zero, suc, ◌+◌, ◌<◌, ◌≤◌, Bool, true, not, ◌||◌, ◌⊎◌, List, length, Decides, ◌==◌, nat_lt}
+use Rattle.std.specs.List.{list_any, range_with_len}
+use Rattle.std.proofs.Common.{ap, sym, subst, inl, inr, arith}
 use Rattle.lines.specs.declared.field.Field.{Field}
-use Rattle.std.proofs.lemmas.Bool.{and_from, and_parts, cond-true, lt-ltb, ltb-true, or_from}
-use Rattle.std.proofs.lemmas.Bool.Decides.{Decides-and, Decides-at, Decides-below_or, Decides-like, Decides-eqb, Decides-not, Decides-or}
+use Rattle.std.proofs.lemmas.Bool.{and_from, and_parts, cases_eq, cond-true, false≢true, lt-ltb, ltb-true}
+use Rattle.std.proofs.lemmas.Bool.Decides.{Decides-and, Decides-at, Decides-like, Decides-eqb, Decides-not, Decides-or}
 use Rattle.tables.specs.declared.row.Access.{Access}
 use Rattle.tables.specs.declared.row.Access.TheVariants.{Read, Write}
 use Rattle.tables.specs.Entering.{Table}
 use Rattle.tables.specs.Rowing.{lists, lists_at}
 use Rattle.tables.specs.Tabulating.{Lists, Tabulates, name_in, row_in}
 use Rattle.tables.proofs.Listed.{cell_known}
-use Rattle.independence.specs.Footprint.{row_lists, clash_on, clash_below, apart_by_cells, Disturbs, Undisturbed, ByRecords}
+use Rattle.independence.specs.Footprint.{row_lists, clash_on, clash, apart_by_cells, Disturbs, Undisturbed, ByRecords}
+
+-- one of the n numbers from k on passes the test
+abbrev Passes : (ℕ → Bool) → ℕ → ℕ → Type 0
+Passes p k n = (c : ℕ) × ((k ≤ c) × (c < k + n)) × (p c ≡ true)
+
+module _ (p : ℕ → Bool) where
+  first_or_later : (k n : ℕ) → (p k ≡ true) ⊎ Passes p (k + 1) n → Passes p k (suc n)
+  first_or_later k n (inl e) = (k, (omega arith, omega arith), e)
+  first_or_later k n (inr w) = (w.0, (omega (arith, w.1.0), omega (arith, w.1.1)), w.2)
+
+  which_passes : (k n : ℕ) → Passes p k (suc n) → (p k ≡ true) ⊎ Passes p (k + 1) n
+  which_passes k n w =
+      elim (cases_eq w.0 k) [
+        | inl e ↦ inl (subst (λ c. p c ≡ true) e w.2)
+        | inr d ↦ inr (w.0, (omega (arith, w.1.0), omega (arith, w.1.1)), w.2)
+      ]
+
+  any_decides : (k n : ℕ) → Decides (list_any p (range_with_len k n)) (Passes p k n)
+  any_decides k zero = (λ e. absurd (false≢true e), λ w. absurd (omega (arith, w.1.0, w.1.1)))
+  any_decides k (suc n) =
+      Decides-like (p k || list_any p (range_with_len (k + 1) n)) (first_or_later k n) (which_passes k n)
+      (Decides-or (p k) _ (λ e. e, λ e. e) (any_decides (k + 1) n))
 
 module _ (t : Table) (a b : ℕ) where
-  -- the loop's step, and what ends it before its time
-  pub below_more : (n : ℕ) → clash_on t a b n ≡ false → clash_below t a b n ≡ false → clash_below t a b (n + 1) ≡ false
-  below_more n h k = ap (clash_below t a b) (add-one n) ∙ or_from _ _ h k
-
-  below_decides : (n : ℕ) → Decides (clash_below t a b n) ((c : ℕ) × (c < n) × (clash_on t a b c ≡ true))
-  below_decides =
-      Decides-below_or (clash_on t a b) (λ c. clash_on t a b c ≡ true) (clash_below t a b) (λ c. (λ e. e, λ e. e)) refl (λ _. refl)
-
-  pub clash_not_apart : (c : ℕ) → c < length t.cells → clash_on t a b c ≡ true → apart_by_cells t a b ≡ false
-  clash_not_apart c h e = let k = (below_decides (length t.cells)).1 (c, h, e) in grind arith
+  clash_known : Decides (clash t a b) ((c : ℕ) × (c < length t.cells) × (clash_on t a b c ≡ true))
+  clash_known =
+      Decides-like (clash t a b) (λ w. (w.0, omega (arith, w.1.1), w.2)) (λ w. (w.0, (omega arith, omega (arith, w.1)), w.2))
+      (any_decides (clash_on t a b) 0 (length t.cells))
 
 module _ (text : List ℕ) (rs : List (List Field)) (t : Table) (tab : Tabulates text rs t) where
   -- a row lists what the records of its event list
@@ -58,11 +75,11 @@ module _ (text : List ℕ) (rs : List (List Field)) (t : Table) (tab : Tabulates
         let n = cell_known text Write x.0 cell rs t tab x.1 in
         (n.0, n.1, (clash_decides n.0 n.1).1 (subst Clashes (sym n.2) w))
 
-    below_by_records : Decides (clash_below t a b (length t.cells)) ((cell : List ℕ) × Clashes cell)
-    below_by_records =
-        Decides-like (clash_below t a b (length t.cells))
+    clash_by_records : Decides (clash t a b) ((cell : List ℕ) × Clashes cell)
+    clash_by_records =
+        Decides-like (clash t a b)
         (λ n. (name_in text t.cells n.0, (clash_decides n.0 n.1).0 n.2)) (λ w. clash_number w.0 w.1)
-        (below_decides t a b (length t.cells))
+        (clash_known t a b)
 
   apart_means : (a b : ℕ) → apart_by_cells t a b ≡ true → Undisturbed text rs t.events a b
   apart_means a b e =
@@ -71,7 +88,7 @@ module _ (text : List ℕ) (rs : List (List Field)) (t : Table) (tab : Tabulates
       let r = and_parts (not (a == b)) _ q.1 in
       let h = ltb-true a (length t.events) p.0 in
       let k = ltb-true b (length t.events) q.0 in
-      let no = (Decides-not (clash_below t a b (length t.cells)) (below_by_records a b h k)).0 r.1 in (
+      let no = (Decides-not (clash t a b) (clash_by_records a b h k)).0 r.1 in (
         h,
         k,
         (Decides-not (a == b) (Decides-eqb a b)).0 r.0,
@@ -84,7 +101,7 @@ module _ (text : List ℕ) (rs : List (List Field)) (t : Table) (tab : Tabulates
       and_from _ _ (lt-ltb a (length t.events) m.0)
       (and_from _ _ (lt-ltb b (length t.events) m.1)
       (and_from _ _ ((Decides-not (a == b) (Decides-eqb a b)).1 m.2)
-      ((Decides-not (clash_below t a b (length t.cells)) (below_by_records a b m.0 m.1)).1
+      ((Decides-not (clash t a b) (clash_by_records a b m.0 m.1)).1
       (λ w. elim w.1 [ inl v ↦ m.3 w.0 v | inr v ↦ m.4 w.0 v ]))))
 
 pub apart_by_records : (text : List ℕ) (t : Table) → ByRecords text t (apart_by_cells t)

@@ -1,9 +1,10 @@
 -- The processes of two events are apart: by the table and the pairs.
-use Rattle.std.specs.Prelude.{◌≡◌, ℕ, ◌<◌, not, ◌&&◌, ◌||◌, ◌⊎◌, List, [], ◌∷◌, length, Some, Ok, Decides, ◌==◌, ◌≢◌, nat_lt, refl}
+use Rattle.std.specs.Prelude.{◌≡◌, ℕ, ◌<◌, not, ◌&&◌, ◌⊎◌, List, length, Some, Ok, Decides, ◌==◌, ◌≢◌, nat_lt, refl}
 use Rattle.std.proofs.Common.{ap, sym, ◌∙◌, arith}
 use Rattle.std.proofs.lemmas.Bool.{cond-true, lt-ltb}
 use Rattle.std.proofs.lemmas.Bool.Decides.{Decides-and, Decides-by_or, Decides-eqb, Decides-like, Decides-not, Decides-or}
-use Rattle.std.specs.List.{list_any, ContainsAt as Has}
+use Rattle.std.proofs.lemmas.List.Elements.{Decides-contains}
+use Rattle.std.specs.List.{Contains}
 use Rattle.tables.specs.Entering.{Table}
 use Rattle.tables.specs.Rowing.{row_of, process_of}
 use Rattle.tables.specs.Tabling.{event_table}
@@ -14,27 +15,23 @@ use Rattle.independence.specs.Parting.{has_pair, listed, parted_from, parted, ap
 pair_same : (y x : ℕ × ℕ) → y.0 ≡ x.0 → y.1 ≡ x.1 → y ≡ x
 pair_same (a, b) (c, d) h k = cc
 
--- what `contains` answers
-pub contains_pair : (p q : ℕ) (pairs : List (ℕ × ℕ)) → list_any (λ y. (y.0 == p) && y.1 == q) pairs ≡ has_pair p q pairs
-contains_pair p q [] = refl
-contains_pair p q (x ∷ xs) = ap (λ b. ((x.0 == p) && x.1 == q) || b) (contains_pair p q xs)
-
 module _ (pairs : List (ℕ × ℕ)) where
-  has_decides : (p q : ℕ) → Decides (has_pair p q pairs) (Has pairs (p, q))
+  has_decides : (p q : ℕ) → Decides (has_pair p q pairs) (Contains pairs (p, q))
   has_decides p q =
-      Decides-by_or (λ x. (x.0 == p) && x.1 == q) (λ x. x ≡ (p, q)) (has_pair p q)
+      Decides-contains pairs (p, q) (has_pair p q pairs)
+      (Decides-by_or (λ x. x.0 == p && x.1 == q) (λ x. x ≡ (p, q)) (has_pair p q)
       (λ x. Decides-like (x.0 == p && x.1 == q)
       (λ h. pair_same x (p, q) h.0 h.1)
       (λ h. (ap (λ (z : ℕ × ℕ). z.0) h, ap (λ (z : ℕ × ℕ). z.1) h))
       (Decides-and (x.0 == p) (x.1 == q) (Decides-eqb x.0 p) (Decides-eqb x.1 q)))
-      refl (λ _ _. refl) pairs
+      refl (λ _ _. refl) pairs)
 
   module _ (t : Table) where
     process_there : (a : ℕ) → a < length t.rows → process_of (row_of t.rows a) ≡ Some (row_in t a).process
     process_there a h = ap process_of (cond-true (nat_lt a (length t.rows)) _ _ (lt-ltb a (length t.rows) h))
 
     abbrev Apart : ℕ → ℕ → Type 0
-    Apart p q = (p ≢ q) × (Has pairs (p, q) ⊎ Has pairs (q, p))
+    Apart p q = (p ≢ q) × (Contains pairs (p, q) ⊎ Contains pairs (q, p))
 
     apart_decides : (p q : ℕ) → Decides (parted_from pairs p (Some q)) (Apart p q)
     apart_decides p q =

@@ -1,5 +1,6 @@
 -- Events that do not meet on a cell, by the table and by the records of its text.
-use Rattle.std.specs.Prelude.{ℕ, zero, suc, ◌<◌, Bool, false, not, ◌&&◌, ◌||◌, ◌⊎◌, List, length, Decides, ◌==◌, ◌≢◌, nat_lt}
+use Rattle.std.specs.Prelude.{ℕ, ◌<◌, Bool, not, ◌&&◌, ◌||◌, ◌⊎◌, List, length, Decides, ◌==◌, ◌≢◌, nat_lt}
+use Rattle.std.specs.List.{list_any, range_with_len}
 use Rattle.lines.specs.declared.field.Field.{Field}
 use Rattle.tables.specs.declared.row.Access.{Access}
 use Rattle.tables.specs.declared.row.Access.TheVariants.{Read, Write}
@@ -18,16 +19,15 @@ disturbs t a b c = row_lists t Write a c && (row_lists t Write b c || row_lists 
 abbrev pub clash_on : Table → ℕ → ℕ → ℕ → Bool
 clash_on t a b c = disturbs t a b c || disturbs t b a c
 
--- they clash on one of the first n cells
-abbrev pub clash_below : Table → ℕ → ℕ → ℕ → Bool
-clash_below t a b zero = false
-clash_below t a b (suc n) = clash_on t a b n || clash_below t a b n
+-- they clash on one of the table's cells
+abbrev pub clash : Table → ℕ → ℕ → Bool
+clash t a b = list_any (clash_on t a b) (range_with_len 0 (length t.cells))
 
 -- two different events that clash on no cell
 abbrev pub apart_by_cells : Table → ℕ → ℕ → Bool
 apart_by_cells t a b =
     nat_lt a (length t.events)
-    && (nat_lt b (length t.events) && (not (a == b) && not (clash_below t a b (length t.cells))))
+    && (nat_lt b (length t.events) && (not (a == b) && not (clash t a b)))
 
 -- some record of the first event lists the cell as written, and some record of the second as written or as read
 abbrev pub Disturbs : List ℕ → List (List Field) → List ℕ → List ℕ → List ℕ → Type 0

@@ -1,5 +1,6 @@
 -- Why each kind of independence keeps the laws of `Relation`.
-use Rattle.std.specs.Prelude.{◌≡◌, ℕ, zero, suc, ◌<◌, Bool, true, false, not, ◌&&◌, List, length, Some, None, Ok, Option, nat_lt, ◌==◌, refl}
+use Rattle.std.specs.Prelude.{◌≡◌, ℕ, ◌<◌, Bool, true, false, not, ◌&&◌, List, [], ◌∷◌, length, Some, None, Ok, Option, nat_lt, ◌==◌, refl}
+use Rattle.std.specs.List.{list_any, range_with_len}
 use Rattle.std.proofs.Common.{ap, sym, arith}
 use Rattle.std.proofs.Math.Bool.{or_comm}
 use mathlib.Core.HLevel.{hedberg}
@@ -12,7 +13,7 @@ use Rattle.tables.specs.Entering.{Table}
 use Rattle.tables.specs.Rowing.{row_of, process_of}
 use Rattle.tables.specs.Tabling.{event_table}
 use Rattle.tables.proofs.Tabulated.{table_says, events_few}
-use Rattle.independence.specs.Footprint.{disturbs, clash_below, apart_by_cells}
+use Rattle.independence.specs.Footprint.{disturbs, clash_on, apart_by_cells}
 use Rattle.independence.specs.Parting.{has_pair, parted, apart_by_processes}
 
 -- ── by cells ──
@@ -28,11 +29,11 @@ eqb_turned : (a b : ℕ) → (a == b) ≡ (b == a)
 eqb_turned a b = same_from_decides (a == b) (b == a) (Decides-eqb a b) (Decides-like (b == a) sym sym (Decides-eqb b a))
 
 module _ (t : Table) (a b : ℕ) where
-  below_turned : (n : ℕ) → clash_below t a b n ≡ clash_below t b a n
-  below_turned zero = refl
-  below_turned (suc n) =
-      let e = or_comm (disturbs t a b n) (disturbs t b a n) in
-      let r = below_turned n in
+  any_turned : (cs : List ℕ) → list_any (clash_on t a b) cs ≡ list_any (clash_on t b a) cs
+  any_turned [] = refl
+  any_turned (c ∷ cs) =
+      let e = or_comm (disturbs t a b c) (disturbs t b a c) in
+      let r = any_turned cs in
       cc
 
   pub cells_irreflexive : a ≡ b → apart_by_cells t a b ≡ false
@@ -40,7 +41,7 @@ module _ (t : Table) (a b : ℕ) where
 
   pub cells_symmetric : apart_by_cells t a b ≡ apart_by_cells t b a
   cells_symmetric =
-      turned (nat_lt a (length t.events)) (nat_lt b (length t.events)) _ _ _ _ (eqb_turned a b) (below_turned (length t.cells))
+      turned (nat_lt a (length t.events)) (nat_lt b (length t.events)) _ _ _ _ (eqb_turned a b) (any_turned (range_with_len 0 (length t.cells)))
 
   cells_known : apart_by_cells t a b ≡ true → a < length t.events
   cells_known e = ltb-true a (length t.events) (and_parts (nat_lt a (length t.events)) _ e).0

@@ -1,6 +1,6 @@
 -- All pairs of independent events.
 use Rattle.std.specs.Prelude.{◌≡◌, ℕ, zero, suc, ◌+◌, ◌<◌, Bool, true, ◌↔◌, List, [], ◌∷◌, ◌++◌, filter}
-use Rattle.std.specs.List.{ContainsAt as Has}
+use Rattle.std.specs.List.{Contains}
 
 -- events are numbers below this one; shut, so that no proof writes all pairs out
 unfoldable pub event_limit : ℕ
@@ -25,4 +25,4 @@ independent_pairs relation = related relation (pairs_from 0 event_limit)
 
 -- a pair is one of these exactly if its lower number stands first and the two are related
 abbrev pub Exactly : (ℕ → ℕ → Bool) → List (ℕ × ℕ) → Type 0
-Exactly relation pairs = (a b : ℕ) → Has pairs (a, b) ↔ ((a < b) × (relation a b ≡ true))
+Exactly relation pairs = (a b : ℕ) → Contains pairs (a, b) ↔ ((a < b) × (relation a b ≡ true))

@@ -1,7 +1,7 @@
 -- Events whose processes are apart, by a list of pairs of processes.
-use Rattle.std.specs.Prelude.{ℕ, ◌<◌, Bool, false, not, ◌&&◌, ◌||◌, ◌⊎◌, List, [], ◌∷◌, length, Some, None, Decides, Option, ◌==◌, ◌≢◌}
+use Rattle.std.specs.Prelude.{ℕ, ◌<◌, Bool, false, not, ◌&&◌, ◌||◌, ◌⊎◌, List, length, Some, None, Decides, Option, ◌==◌, ◌≢◌}
 use Rattle.lines.specs.declared.field.Field.{Field}
-use Rattle.std.specs.List.{ContainsAt as Has}
+use Rattle.std.specs.List.{list_any, Contains}
 use Rattle.tables.specs.Entering.{Table}
 use Rattle.tables.specs.Rowing.{row_of, process_of}
 use Rattle.tables.specs.Listing.{ListsBoth, ListsApart}
@@ -9,8 +9,7 @@ use Rattle.tables.specs.Tabulating.{row_in}
 
 -- the pair is one of these
 abbrev pub has_pair : ℕ → ℕ → List (ℕ × ℕ) → Bool
-has_pair p q [] = false
-has_pair p q (x ∷ xs) = (x.0 == p && x.1 == q) || has_pair p q xs
+has_pair p q pairs = list_any (λ x. x.0 == p && x.1 == q) pairs
 
 -- the one way or the other
 abbrev pub listed : ℕ → ℕ → List (ℕ × ℕ) → Bool
@@ -33,7 +32,7 @@ apart_by_processes t pairs a b = parted pairs (process_of (row_of t.rows a)) (pr
 abbrev pub Parted : Table → List (ℕ × ℕ) → ℕ → ℕ → Type 0
 Parted t pairs a b =
     (a < length t.events) × (b < length t.events) × ((row_in t a).process ≢ (row_in t b).process)
-    × (Has pairs ((row_in t a).process, (row_in t b).process) ⊎ Has pairs ((row_in t b).process, (row_in t a).process))
+    × (Contains pairs ((row_in t a).process, (row_in t b).process) ⊎ Contains pairs ((row_in t b).process, (row_in t a).process))
 
 -- the relation is what the pairs say
 abbrev pub ByPairs : Table → List (ℕ × ℕ) → (ℕ → ℕ → Bool) → Type 0

@@ -1,10 +1,10 @@
-// Two independences at once.
+//! Two independences at once.
 ghost use Rattle.std.specs.Prelude.{◌&&◌};
 ghost use Rattle.independence.specs.Laws.{both_irreflexive, both_symmetric, both_bounded};
 
 use crate::relation::{Independence, Relation};
 
-// Two events are independent if both rules say so.
+/// Two events are independent if both rules say so.
 #[derive(Drop)]
 pub struct Both<X, Y> {
     pub first: X,

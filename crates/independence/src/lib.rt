@@ -1,4 +1,4 @@
-// Which events are independent of each other: the trait, and its kinds.
+//! Which events are independent of each other: the trait, and its kinds.
 #![tactic(auto)]
 
 pub mod apart;

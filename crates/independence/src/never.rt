@@ -1,9 +1,10 @@
+//! No independence at all.
 ghost use Rattle.std.specs.Prelude.{false, refl};
 ghost use Rattle.independence.specs.Laws.{never_bounded};
 
 use crate::relation::{Independence, Relation};
 
-// No two events are independent.
+/// No two events are independent.
 #[derive(Clone, Copy)]
 pub struct Never;
 

@@ -1,12 +1,10 @@
-// All pairs of independent events.
+//! All pairs of independent events.
 ghost use Rattle.std.specs.Prelude.{◌≡◌, ◌+◌, ◌-◌, ◌<◌, ◌++◌, IfOk, OnOk};
 ghost use Rattle.independence.specs.Pairing.{event_limit, pairs_of, related, independent_pairs, Exactly};
 
 use crate::relation::Independence;
 use std::alloc::{AllocError, Global};
-
-// Events are numbers below this one.
-const EVENT_LIMIT: usize = 64;
+use tables::events::EVENT_LIMIT;
 
 // Adds the pairs of an event with the later ones that are independent of it.
 fn add_pairs_of<I: Independence>(
@@ -25,7 +23,7 @@ fn add_pairs_of<I: Independence>(
     Ok(())
 }
 
-// Each pair has the lower number first, and the pairs rise by their first and then their second number.
+/// Each pair has the lower number first, and the pairs rise by their first and then their second number.
 pub fn independent_pairs<I: Independence>(
     heap: Global,
     rule: &I,

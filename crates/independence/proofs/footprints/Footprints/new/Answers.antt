@@ -1,5 +1,4 @@
 use Rattle.std.proofs.Common.{refl}
-use Rattle.tables.specs.Entering.{entered}
 use Rattle.independence.proofs.Clashes.{apart_by_records}
 use Rattle.independence.proofs.footprints.Footprints.new.Goals as goal
 
@@ -7,5 +6,5 @@ pub returns : goal.returns
 returns c =
     record {
       table = refl;
-      meaning = apart_by_records c.args.events.now.text.now (entered c.args.events.now.entries);
+      meaning = apart_by_records c.args.events.now.text.now c.args.events.now.entries;
     }
