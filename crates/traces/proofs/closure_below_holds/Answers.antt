@@ -1,5 +1,0 @@
-use Rattle.traces.proofs.Events.{closure_below}
-use Rattle.traces.proofs.closure_below_holds.Goals as goal
-
-pub returns : goal.returns
-returns c = closure_below

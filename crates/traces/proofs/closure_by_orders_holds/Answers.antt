@@ -1,5 +1,0 @@
-use Rattle.traces.proofs.Reordering.{closure_by_orders}
-use Rattle.traces.proofs.closure_by_orders_holds.Goals as goal
-
-pub returns : goal.returns
-returns c = closure_by_orders

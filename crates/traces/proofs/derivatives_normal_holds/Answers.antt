@@ -1,5 +1,0 @@
-use Rattle.traces.proofs.DerivativeForms.{derivatives_normal}
-use Rattle.traces.proofs.derivatives_normal_holds.Goals as goal
-
-pub returns : goal.returns
-returns c = derivatives_normal

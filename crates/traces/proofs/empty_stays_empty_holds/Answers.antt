@@ -1,5 +1,0 @@
-use Rattle.traces.proofs.Sets.{empty_stays_empty}
-use Rattle.traces.proofs.empty_stays_empty_holds.Goals as goal
-
-pub returns : goal.returns
-returns c = empty_stays_empty

@@ -1,5 +1,0 @@
-use Rattle.traces.proofs.NormalWords.{equal_decides}
-use Rattle.traces.proofs.equal_decides_holds.Goals as goal
-
-pub returns : goal.returns
-returns c = equal_decides

@@ -1,5 +1,0 @@
-use Rattle.traces.proofs.Worked.{example_table}
-use Rattle.traces.proofs.example_table_holds.Goals as goal
-
-pub returns : goal.returns
-returns c = example_table

@@ -1,5 +1,0 @@
-use Rattle.traces.proofs.NormalWords.{keep_words}
-use Rattle.traces.proofs.keep_words_holds.Goals as goal
-
-pub returns : goal.returns
-returns c = keep_words

@@ -1,5 +1,0 @@
-use Rattle.traces.proofs.Sets.{nonempty_prefix}
-use Rattle.traces.proofs.nonempty_prefix_holds.Goals as goal
-
-pub returns : goal.returns
-returns c = nonempty_prefix

@@ -1,5 +1,0 @@
-use Rattle.traces.proofs.NormalForms.{normal_plain}
-use Rattle.traces.proofs.normal_plain_holds.Goals as goal
-
-pub returns : goal.returns
-returns c = normal_plain

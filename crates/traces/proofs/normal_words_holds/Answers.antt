@@ -1,5 +1,0 @@
-use Rattle.traces.proofs.NormalWords.{normal_words}
-use Rattle.traces.proofs.normal_words_holds.Goals as goal
-
-pub returns : goal.returns
-returns c = normal_words

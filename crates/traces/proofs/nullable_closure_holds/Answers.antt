@@ -1,5 +1,0 @@
-use Rattle.traces.proofs.Sets.{nullable_closure}
-use Rattle.traces.proofs.nullable_closure_holds.Goals as goal
-
-pub returns : goal.returns
-returns c = nullable_closure

@@ -1,5 +1,0 @@
-use Rattle.traces.proofs.Sets.{nullable_decides}
-use Rattle.traces.proofs.nullable_decides_holds.Goals as goal
-
-pub returns : goal.returns
-returns c = nullable_decides

@@ -1,5 +1,0 @@
-use Rattle.traces.proofs.Ordering.{order_total}
-use Rattle.traces.proofs.order_total_holds.Goals as goal
-
-pub returns : goal.returns
-returns c = order_total

@@ -1,5 +1,0 @@
-use Rattle.traces.proofs.Events.{words_below}
-use Rattle.traces.proofs.words_below_holds.Goals as goal
-
-pub returns : goal.returns
-returns c = words_below
