@@ -2,39 +2,40 @@ ghost use Rattle.std.specs.Prelude.{◌≡◌, IfOk};
 ghost use Rattle.expressions.specs.Model.{model};
 
 use crate::events::Event;
-use std::alloc::{AllocError, Global};
+use std::alloc::AllocError;
 
-/// A regular expression over events.
-#[derive(Drop)]
+/// A regular expression over events. The variants stand in the order of their symbols, so that the derived order is
+/// that of the prefix forms.
+#[derive(Drop, PartialEq, Eq, PartialOrd, Ord, Debug)]
 pub enum Expr {
     Event(Event),
     One,
-    Zero,
     Sum(Box<Expr>, Box<Expr>),
     Cat(Box<Expr>, Box<Expr>),
     Star(Box<Expr>),
+    Zero,
 }
 
-impl Expr {
-    /// The same expression in memory of its own.
-    pub fn copy(&self, heap: Global) -> Result<Expr, AllocError>
-        ensures { IfOk result (λ e. model e ≡ model self.now) }
-    {
+impl Clone for Expr {
+    ghost is_clone = { λ x y. model y ≡ model x };
+
+    #[cycle(clone)]
+    fn clone(&self) -> Result<Expr, AllocError> {
         match self {
             Expr::Event(e) => Ok(Expr::Event(*e)),
             Expr::One => Ok(Expr::One),
+            Expr::Sum(a, b) => Ok(Expr::Sum(boxed(a)?, boxed(b)?)),
+            Expr::Cat(a, b) => Ok(Expr::Cat(boxed(a)?, boxed(b)?)),
+            Expr::Star(a) => Ok(Expr::Star(boxed(a)?)),
             Expr::Zero => Ok(Expr::Zero),
-            Expr::Sum(a, b) => {
-                let a = Box::new(heap, a.copy(heap)?)?;
-                let b = Box::new(heap, b.copy(heap)?)?;
-                Ok(Expr::Sum(a, b))
-            }
-            Expr::Cat(a, b) => {
-                let a = Box::new(heap, a.copy(heap)?)?;
-                let b = Box::new(heap, b.copy(heap)?)?;
-                Ok(Expr::Cat(a, b))
-            }
-            Expr::Star(a) => Ok(Expr::Star(Box::new(heap, a.copy(heap)?)?)),
         }
     }
+}
+
+// What a box clones to. The clone of `Box` itself has no proof where it leads back to a clone that is written out.
+#[cycle(clone)]
+fn boxed(e: &Box<Expr>) -> Result<Box<Expr>, AllocError>
+    ensures { IfOk result (λ b. model b.value ≡ model e.now.value) }
+{
+    Ok(Box::new(*Box::allocator(e), e.as_ref().clone()?)?)
 }

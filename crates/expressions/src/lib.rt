@@ -6,11 +6,13 @@
 mod construct;
 mod events;
 mod expr;
+mod laws;
 mod nullable;
 mod order;
 mod size;
 
 pub use construct::{cat, event, star, sum};
-pub use events::Event;
+pub use events::{Event, NoEvent};
 pub use expr::Expr;
+pub use laws::comparing_expressions;
 pub use order::compare;

@@ -10,12 +10,10 @@ impl Expr {
         ensures { result ≡ nullable (model self.now) }
     {
         match self {
-            Expr::Event(_) => false,
-            Expr::One => true,
-            Expr::Zero => false,
+            Expr::Event(_) | Expr::Zero => false,
+            Expr::One | Expr::Star(_) => true,
             Expr::Sum(a, b) => a.is_nullable() || b.is_nullable(),
             Expr::Cat(a, b) => a.is_nullable() && b.is_nullable(),
-            Expr::Star(_) => true,
         }
     }
 }

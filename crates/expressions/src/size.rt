@@ -12,8 +12,7 @@ impl Expr {
     {
         match self {
             Expr::Event(_) | Expr::One | Expr::Zero => room.checked_sub(1),
-            Expr::Sum(a, b) => b.room_left(a.room_left(room.checked_sub(1)?)?),
-            Expr::Cat(a, b) => b.room_left(a.room_left(room.checked_sub(1)?)?),
+            Expr::Sum(a, b) | Expr::Cat(a, b) => b.room_left(a.room_left(room.checked_sub(1)?)?),
             Expr::Star(a) => a.room_left(room.checked_sub(1)?),
         }
     }
