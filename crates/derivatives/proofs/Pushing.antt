@@ -1,14 +1,13 @@
--- How a list grows by the derivatives of a Cat and of a Star.
-use Rattle.std.proofs.Common.{◌≡◌, ℕ, Bool, true, false, cond, eqb, List, [], ◌∷◌, ◌++◌, map, sym, refl, ap, ◌∙◌, append_assoc, append-nil}
-use Rattle.std.proofs.lemmas.List.{map-append}
+-- How a list grows by derivatives.
+use Rattle.std.proofs.Common.{◌≡◌, ℕ, ◌+◌, ◌<◌, Bool, true, false, cond, List, [], ◌∷◌, ◌++◌, map, length, get_or, take, sym, refl, ap, ◌∙◌, append_assoc, append-nil}
+use Rattle.std.proofs.lemmas.List.{map-append, take_more}
 use Rattle.traces.specs.Words.{Rel}
 use Rattle.traces.specs.Expressions.{Exp, event, one, zero, sum, cat, star}
-use Rattle.traces.specs.Normal.{is_zero, cat_of, star_of}
-use Rattle.traces.specs.Derivatives.{keep, nonzero, derivatives}
+use Rattle.traces.specs.Normal.{is_zero, cat_of}
+use Rattle.traces.specs.Derivatives.{keep, nonzero, derivatives, next}
 use Rattle.expressions.specs.Model.{model, models}
-use Rattle.derivatives.specs.Rounds.{between, behind}
+use Rattle.derivatives.specs.Rounds.{between}
 use Rattle.expressions.specs.declared.expr.Expr.{Expr}
-use Rattle.expressions.specs.declared.expr.Expr.TheVariants.{One}
 
 -- ── one turn of the loop ──
 
@@ -45,28 +44,16 @@ skip_step K F start items ds d w inv value empty =
     let none : between K F (model d ∷ []) ≡ [] = rw (← value, empty) refl in
     rw (between_push, none, append-nil) inv
 
--- ── the derivatives of each kind of expression, from what the calls answered ──
-
-pub event_pushed : (rel : Rel) (a b : ℕ) (E : Exp) (items new : List Expr)
-    → E ≡ event b → eqb b a ≡ true → new ≡ items ++ One ∷ [] → models new ≡ models items ++ derivatives rel a E
-event_pushed rel a b E items new is hit pushed = rw (is, hit, pushed) (map-append model items (One ∷ []))
-
-pub sum_pushed : (rel : Rel) (a : ℕ) (E A B : Exp) (start first new : List Exp)
-    → E ≡ sum A B → first ≡ start ++ derivatives rel a A → new ≡ first ++ derivatives rel a B
-    → new ≡ start ++ derivatives rel a E
-sum_pushed rel a E A B start first new is left right =
-    rw (is, right, left) (append_assoc start (derivatives rel a A) (derivatives rel a B))
+-- ── the derivatives of a Cat, from what the calls answered ──
 
 -- nothing is kept in front of the list
 nothing_kept : (Es : List Exp) → nonzero (map (λ E. cat_of zero E) Es) ≡ []
 nothing_kept [] = refl
 nothing_kept (E ∷ Es) = nothing_kept Es
 
-pub cat_left_pushed : (rel : Rel) (a : ℕ) (E A B T : Exp) (start new : List Exp)
-    → E ≡ cat A B → T ≡ B → keep rel a A ≡ zero → new ≡ start ++ between one T (derivatives rel a A)
-    → new ≡ start ++ derivatives rel a E
-cat_left_pushed rel a E A B T start new is tail kept left =
-    rw (is, kept, nothing_kept, append-nil) (left ∙ (λ i. start ++ between one (tail i) (derivatives rel a A)))
+pub cat_left_pushed : (rel : Rel) (a : ℕ) (A B : Exp) (start new : List Exp)
+    → keep rel a A ≡ zero → new ≡ start ++ between one B (derivatives rel a A) → new ≡ start ++ derivatives rel a (cat A B)
+cat_left_pushed rel a A B start new kept left = rw (kept, nothing_kept, append-nil) left
 
 cat_one : (E : Exp) → cat_of E one ≡ E
 cat_one (event b) = refl
@@ -82,26 +69,26 @@ between_end K [] = refl
 between_end K (E ∷ Es) =
     λ i. cond (is_zero (cat_of K (cat_one E i))) (between_end K Es i) (cat_of K (cat_one E i) ∷ between_end K Es i)
 
-pub cat_pushed : (rel : Rel) (a : ℕ) (E A B T K : Exp) (start first new : List Exp)
-    → E ≡ cat A B → T ≡ B → K ≡ keep rel a A → first ≡ start ++ between one T (derivatives rel a A)
-    → new ≡ first ++ between K one (derivatives rel a B)
-    → new ≡ start ++ derivatives rel a E
-cat_pushed rel a E A B T K start first new is tail kept left right =
-    rw (is, right, left, tail, kept, between_end (keep rel a A) (derivatives rel a B))
+pub cat_pushed : (rel : Rel) (a : ℕ) (A B K : Exp) (start first rights new : List Exp)
+    → K ≡ keep rel a A → rights ≡ derivatives rel a B
+    → first ≡ start ++ between one B (derivatives rel a A) → new ≡ first ++ between K one rights
+    → new ≡ start ++ derivatives rel a (cat A B)
+cat_pushed rel a A B K start first rights new kept is left right =
+    rw (right, left, kept, is, between_end (keep rel a A) (derivatives rel a B))
     (append_assoc start (between one B (derivatives rel a A)) (nonzero (map (λ F. cat_of (keep rel a A) F) (derivatives rel a B))))
 
-pub star_pushed : (rel : Rel) (a : ℕ) (E A K T : Exp) (start new : List Exp)
-    → E ≡ star A → K ≡ star_of (keep rel a A) → T ≡ behind E A → new ≡ start ++ between K T (derivatives rel a A)
-    → new ≡ start ++ derivatives rel a E
-star_pushed rel a E A K T start new is kept tail pushed =
-    pushed ∙ (λ i. start ++ between (kept i) (tail i) (derivatives rel a A))
-    ∙ (λ i. start ++ between (star_of (keep rel a A)) (behind (is i) A) (derivatives rel a A))
-    ∙ ap (λ Es. start ++ Es) (rounds A) ∙ (λ i. start ++ derivatives rel a (sym is i))
-  where
-    rounds : (B : Exp) → between (star_of (keep rel a B)) (behind (star B) B) (derivatives rel a B) ≡ derivatives rel a (star B)
-    rounds (event b) = refl
-    rounds one = refl
-    rounds zero = refl
-    rounds (sum B C) = refl
-    rounds (cat B C) = refl
-    rounds (star B) = refl
+-- ── the derivatives of all of a list ──
+
+module _ (rel : Rel) (a : ℕ) where
+  next-append : (Es Fs : List Exp) → next rel a (Es ++ Fs) ≡ next rel a Es ++ next rel a Fs
+  next-append [] Fs = refl
+  next-append (E ∷ Es) Fs =
+      ap (λ Gs. derivatives rel a E ++ Gs) (next-append Es Fs) ∙ sym (append_assoc (derivatives rel a E) (next rel a Es) (next rel a Fs))
+
+  pub next_more : (es : List Expr) (i : ℕ) (d : Expr) → i < length es
+      → next rel a (models (take (i + 1) es)) ≡ next rel a (models (take i es)) ++ derivatives rel a (model (get_or es i d))
+  next_more es i d inside =
+      ap (λ ds. next rel a (models ds)) (take_more es i d inside)
+      ∙ ap (next rel a) (map-append model (take i es) (get_or es i d ∷ []))
+      ∙ next-append (models (take i es)) (model (get_or es i d) ∷ [])
+      ∙ ap (λ Es. next rel a (models (take i es)) ++ Es) (append-nil (derivatives rel a (model (get_or es i d))))

@@ -1,83 +1,95 @@
 ghost use Rattle.std.specs.Prelude.{◌≡◌, ◌++◌, IfOk, OnOk};
 ghost use Rattle.traces.specs.Normal.{cat_of, star_of};
-ghost use Rattle.traces.specs.Derivatives.{keep, derivatives};
 ghost use Rattle.expressions.specs.Model.{model, models};
 ghost use Rattle.derivatives.specs.Rounds.{between, behind};
+ghost use Rattle.derivatives.specs.Steps.{kept, derived, next_of};
 
-use crate::kept::keep;
+use crate::step::Step;
 use expressions::{Expr, cat, star};
 use independence::relation::Independence;
-use std::alloc::{AllocError, Global};
+use std::alloc::AllocError;
 
-/// The derivatives of the expression by an event. None of them is Zero.
-pub fn derivatives<I: Independence>(
-    heap: Global,
-    rule: &I,
-    event: usize,
-    e: &Expr,
-) -> Result<Vec<Expr>, AllocError>
-    ensures { IfOk result (λ v. models v.items ≡ derivatives (I.Relation.relation rule.now) event (model e.now)) }
-{
-    let mut out = Vec::new(heap);
-    push_derivatives(heap, rule, event, e, &mut out)?;
-    Ok(out)
-}
+impl<I: Independence> Step<'_, I> {
+    /// The derivatives of the expression by the event. None of them is Zero.
+    #[cycle(deriving)]
+    pub fn derivatives(&self, e: &Expr) -> Result<Vec<Expr>, AllocError>
+        ensures { IfOk result (λ v. models v.items ≡ derived I.Relation.relation self.now (model e.now)) }
+    {
+        let mut out = Vec::new(self.heap);
+        self.push_derivatives(e, &mut out)?;
+        Ok(out)
+    }
 
-// The list grows by the derivatives of e, so that each is moved into place once.
-fn push_derivatives<I: Independence>(
-    heap: Global,
-    rule: &I,
-    event: usize,
-    e: &Expr,
-    out: &mut Vec<Expr>,
-) -> Result<(), AllocError>
-    ensures { OnOk result (models out.new.items ≡ models out.old.items ++ derivatives (I.Relation.relation rule.now) event (model e.now)) }
-{
-    match e {
-        Expr::Event(b) => {
-            if b.number() == event {
-                out.push(Expr::One)?;
+    /// The derivatives of all of the expressions, in turn.
+    #[tactic(auto, using(crate::proofs::Pushing::next_more))]
+    pub fn all_derivatives(&self, es: &[Expr]) -> Result<Vec<Expr>, AllocError>
+        ensures { IfOk result (λ v. models v.items ≡ next_of I.Relation.relation self.now (models es.now)) }
+    {
+        let mut out = Vec::new(self.heap);
+        for e in es {
+            self.push_derivatives(e, &mut out)?;
+        }
+        Ok(out)
+    }
+
+    // The list grows by the derivatives of e, so that each is moved into place once.
+    #[cycle(deriving)]
+    fn push_derivatives(&self, e: &Expr, out: &mut Vec<Expr>) -> Result<(), AllocError>
+        ensures { OnOk result (models out.new.items ≡ models out.old.items ++ derived I.Relation.relation self.now (model e.now)) }
+    {
+        match e {
+            Expr::Event(b) if usize::from(*b) == self.event => Ok(out.push(Expr::One)?),
+            Expr::Event(_) | Expr::One | Expr::Zero => Ok(()),
+            Expr::Sum(a, b) => {
+                self.push_derivatives(a, out)?;
+                self.push_derivatives(b, out)
             }
-            Ok(())
-        }
-        Expr::One => Ok(()),
-        Expr::Zero => Ok(()),
-        Expr::Sum(a, b) => {
-            push_derivatives(heap, rule, event, a, out)?;
-            push_derivatives(heap, rule, event, b, out)
-        }
-        Expr::Cat(a, b) => {
-            let mut lefts = Vec::new(heap);
-            push_derivatives(heap, rule, event, a, &mut lefts)?;
-            push_between(heap, out, &Expr::One, lefts, b)?;
-            match keep(heap, rule, event, a)? {
-                Expr::Zero => Ok(()),
-                kept => {
-                    let mut rights = Vec::new(heap);
-                    push_derivatives(heap, rule, event, b, &mut rights)?;
-                    push_between(heap, out, &kept, rights, &Expr::One)
+            Expr::Cat(a, b) => {
+                self.push_between(out, &Expr::One, self.derivatives(a)?, b)?;
+                match self.keep(a)? {
+                    Expr::Zero => Ok(()),
+                    kept => self.push_between(out, &kept, self.derivatives(b)?, &Expr::One),
                 }
             }
-        }
-        Expr::Star(a) => {
-            let mut rounds = Vec::new(heap);
-            push_derivatives(heap, rule, event, a, &mut rounds)?;
-            let kept = kept_rounds(heap, rule, event, a)?;
-            push_between(heap, out, &kept, rounds, star_behind(e, a))
+            Expr::Star(a) => {
+                let kept = self.kept_rounds(a)?;
+                self.push_between(out, &kept, self.derivatives(a)?, star_behind(e, a))
+            }
         }
     }
-}
 
-// The rounds of a Star of the expression that may be due before the event and are still to come.
-fn kept_rounds<I: Independence>(
-    heap: Global,
-    rule: &I,
-    event: usize,
-    part: &Expr,
-) -> Result<Expr, AllocError>
-    ensures { IfOk result (λ k. model k ≡ star_of (keep (I.Relation.relation rule.now) event (model part.now))) }
-{
-    star(heap, keep(heap, rule, event, part)?)
+    // The rounds of a Star of the expression that may be due before the event and are still to come.
+    fn kept_rounds(&self, part: &Expr) -> Result<Expr, AllocError>
+        ensures { IfOk result (λ k. model k ≡ star_of (kept I.Relation.relation self.now (model part.now))) }
+    {
+        star(self.heap, self.keep(part)?)
+    }
+
+    // The list grows by head, then d, then tail, for each d, but those that are Zero.
+    fn push_between(
+        &self,
+        out: &mut Vec<Expr>,
+        head: &Expr,
+        ds: Vec<Expr>,
+        tail: &Expr,
+    ) -> Result<(), AllocError>
+        ensures { OnOk result (models out.new.items ≡ models out.old.items ++ between (model head.now) (model tail.now) (models ds.items)) }
+    {
+        for d in ds {
+            match self.join(head, d, tail)? {
+                Expr::Zero => {}
+                whole => out.push(whole)?,
+            }
+        }
+        Ok(())
+    }
+
+    fn join(&self, head: &Expr, d: Expr, tail: &Expr) -> Result<Expr, AllocError>
+        ensures { IfOk result (λ e. model e ≡ cat_of (model head.now) (cat_of (model d) (model tail.now))) }
+    {
+        let end = cat(self.heap, d, tail.clone()?)?;
+        cat(self.heap, head.clone()?, end)
+    }
 }
 
 // What stands behind a round of a Star: the Star itself, or its part if that is a Star already.
@@ -88,30 +100,4 @@ fn star_behind<'a>(whole: &'a Expr, part: &'a Expr) -> &'a Expr
         Expr::Star(_) => part,
         _ => whole,
     }
-}
-
-// The list grows by head, then d, then tail, for each d, but those that are Zero.
-fn push_between(
-    heap: Global,
-    out: &mut Vec<Expr>,
-    head: &Expr,
-    ds: Vec<Expr>,
-    tail: &Expr,
-) -> Result<(), AllocError>
-    ensures { OnOk result (models out.new.items ≡ models out.old.items ++ between (model head.now) (model tail.now) (models ds.items)) }
-{
-    for d in ds {
-        match join(heap, head, d, tail)? {
-            Expr::Zero => {}
-            whole => out.push(whole)?,
-        }
-    }
-    Ok(())
-}
-
-fn join(heap: Global, head: &Expr, d: Expr, tail: &Expr) -> Result<Expr, AllocError>
-    ensures { IfOk result (λ e. model e ≡ cat_of (model head.now) (cat_of (model d) (model tail.now))) }
-{
-    let end = cat(heap, d, tail.copy(heap)?)?;
-    cat(heap, head.copy(heap)?, end)
 }

@@ -3,6 +3,6 @@
 
 mod derive;
 mod kept;
+mod step;
 
-pub use derive::derivatives;
-pub use kept::keep;
+pub use step::Step;
