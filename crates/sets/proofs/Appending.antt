@@ -1,8 +1,8 @@
 -- What lists without duplicates hold, and that they match words.
-use Rattle.std.proofs.Common.{◌≡◌, Bool, true, false, cond, ◌⊎◌, ◌↔◌, List, [], ◌∷◌, ◌++◌, Decides, sym, refl, ap, ◌∙◌, subst, inl, inr, ⊎_elim}
+use Rattle.std.proofs.Common.{◌≡◌, Bool, true, false, cond, ◌||◌, ◌⊎◌, ◌↔◌, List, [], ◌∷◌, ◌++◌, Decides, sym, refl, ap, ◌∙◌, subst, inl, inr, ⊎_elim}
 use Rattle.std.proofs.lemmas.List.{map-append}
-use Rattle.std.proofs.lemmas.Bool.{cond-false}
-use Rattle.std.proofs.lemmas.Bool.Decides.{Decides-like}
+use Rattle.std.proofs.lemmas.Bool.{cond-true, cond-false}
+use Rattle.std.proofs.lemmas.Bool.Decides.{Decides-like, same_from_decides}
 use Rattle.traces.specs.Members.{Member, Any}
 use Rattle.traces.specs.Words.{Word, never}
 use Rattle.traces.specs.Expressions.{Exp, Matches}
@@ -16,18 +16,38 @@ use Rattle.expressions.specs.Model.{model, models}
 use Rattle.sets.specs.Sets.{SameMembers}
 use Rattle.sets.specs.Distinct.{is_member, append, append_each, reached}
 use Rattle.expressions.specs.declared.expr.Expr.{Expr}
+use Rattle.expressions.specs.contracts.expr.ExprPartialEq.TheImpl as same
+use Rattle.expressions.proofs.Derived.{eq_is_equal}
+use Rattle.std.specs.List.{list_any}
 use Rattle.sets.proofs.Searching.{some_decides}
 
 -- ── the program's lists ──
 
-pub append_new : (e : Expr) (es new : List Expr) → is_member (model e) (models es) ≡ false → new ≡ es ++ e ∷ []
-    → models new ≡ append (model e) (models es)
-append_new e es new fresh pushed =
-    ap models pushed ∙ map-append model es (e ∷ []) ∙ sym (cond-false (is_member (model e) (models es)) (models es) (models es ++ model e ∷ []) fresh)
-
-pub append_join : (Ds Fs Es : List Exp) → append_each (Ds ++ Fs) Es ≡ append_each Fs (append_each Ds Es)
+append_join : (Ds Fs Es : List Exp) → append_each (Ds ++ Fs) Es ≡ append_each Fs (append_each Ds Es)
 append_join [] Fs Es = refl
 append_join (D ∷ Ds) Fs Es = append_join Ds Fs (append D Es)
+
+pub append_step : (ds : List Expr) (d : Expr) → append (model d) (append_each (models ds) []) ≡ append_each (models (ds ++ d ∷ [])) []
+append_step ds d = sym (append_join (models ds) (model d ∷ []) []) ∙ ap (λ Es. append_each Es []) (sym (map-append model ds (d ∷ [])))
+
+-- the program's test
+equal_turned : (E F : Exp) → equal E F ≡ equal F E
+equal_turned E F =
+    same_from_decides (equal E F) (equal F E) (equal_decides E F)
+    ((λ h. sym ((equal_decides F E).0 h)), λ q. (equal_decides F E).1 (sym q))
+
+among : (d : Expr) (es : List Expr) → list_any (λ e. same.ghosts.eq e d) es ≡ is_member (model d) (models es)
+among d [] = refl
+among d (e ∷ es) = λ i. (eq_is_equal e d ∙ equal_turned (model e) (model d)) i || among d es i
+
+module _ (d : Expr) (es : List Expr) (known : Bool) (told : known ≡ list_any (λ e. same.ghosts.eq e d) es) where
+  pub append_known : known ≡ true → models es ≡ append (model d) (models es)
+  append_known h = sym (cond-true (is_member (model d) (models es)) (models es) (models es ++ model d ∷ []) (sym (told ∙ among d es) ∙ h))
+
+  pub append_new : (new : List Expr) → known ≡ false → new ≡ es ++ d ∷ [] → models new ≡ append (model d) (models es)
+  append_new new h pushed =
+      ap models pushed ∙ map-append model es (d ∷ [])
+      ∙ sym (cond-false (is_member (model d) (models es)) (models es) (models es ++ model d ∷ []) (sym (told ∙ among d es) ∙ h))
 
 -- ── their members ──
 

@@ -3,22 +3,23 @@ use Rattle.std.proofs.Common.{◌≡◌, ℕ, ◌+◌, ◌<◌, List, ◌++◌, 
 use Rattle.std.proofs.lemmas.List.{at_drop_more}
 use Rattle.traces.specs.Words.{Rel}
 use Rattle.traces.specs.Expressions.{Exp}
+use Rattle.traces.specs.Order.{order}
 use Rattle.traces.specs.Derivatives.{derivatives, next}
 use Rattle.expressions.specs.Model.{model, models}
 use Rattle.expressions.specs.declared.expr.Expr.{Expr}
+use Rattle.sets.specs.Sets.{insert_each}
+use Rattle.sets.proofs.Inserting.{insert-append}
 
--- `gather` puts each of a list into another in turn
-module _ (gather : List Exp → List Exp → List Exp) (joins : (Ds Es L : List Exp) → gather (Ds ++ Es) L ≡ gather Es (gather Ds L))
-    (rel : Rel) (a : ℕ) (es : List Expr) (i : ℕ) (e : Expr) (inside : i < length es) (is : e ≡ get_or es i e)
+module _ (rel : Rel) (a : ℕ) (es : List Expr) (i : ℕ) (e : Expr) (inside : i < length es) (is : e ≡ get_or es i e)
     (Ds L G : List Exp) (derived : Ds ≡ derivatives rel a (model e))
-    (inv : gather (next rel a (models (drop i es))) L ≡ G) where
+    (inv : insert_each (next rel a (models (drop i es))) L ≡ G) where
   -- the derivatives of the member at hand come first
-  pub member_first : gather (Ds ++ next rel a (models (drop (i + 1) es))) L ≡ G
+  pub member_first : insert_each (Ds ++ next rel a (models (drop (i + 1) es))) L ≡ G
   member_first =
-      ap (λ Es. gather (Es ++ next rel a (models (drop (i + 1) es))) L) (derived ∙ ap (λ d. derivatives rel a (model d)) is)
-      ∙ sym (at_drop_more (λ ds. gather (next rel a (models ds)) L) es i e inside) ∙ inv
+      ap (λ Es. insert_each (Es ++ next rel a (models (drop (i + 1) es))) L) (derived ∙ ap (λ d. derivatives rel a (model d)) is)
+      ∙ sym (at_drop_more (λ ds. insert_each (next rel a (models ds)) L) es i e inside) ∙ inv
 
-  pub member_step : (L' : List Exp) → L' ≡ gather Ds L → gather (next rel a (models (drop (i + 1) es))) L' ≡ G
-  member_step L' grown =
-      ap (gather (next rel a (models (drop (i + 1) es)))) grown
-      ∙ sym (joins Ds (next rel a (models (drop (i + 1) es))) L) ∙ member_first
+  pub member_step : (M : List Exp) → M ≡ insert_each Ds L → insert_each (next rel a (models (drop (i + 1) es))) M ≡ G
+  member_step M grown =
+      ap (insert_each (next rel a (models (drop (i + 1) es)))) grown
+      ∙ sym (insert-append order Ds (next rel a (models (drop (i + 1) es))) L) ∙ member_first

@@ -4,10 +4,10 @@ use Rattle.traces.specs.Words.{Word, never}
 use Rattle.traces.specs.Expressions.{Exp}
 use Rattle.traces.specs.Normal.{equal}
 use Rattle.traces.specs.Derivatives.{next}
-use Rattle.sets.specs.Searches.{some}
+use Rattle.std.specs.List.{list_any}
 
 abbrev pub is_member : Exp → List Exp → Bool
-is_member E Es = some (equal E) Es
+is_member E Es = list_any (equal E) Es
 
 -- E put behind the others, unless it is among them
 abbrev pub append : Exp → List Exp → List Exp

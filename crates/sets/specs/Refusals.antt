@@ -1,11 +1,16 @@
 -- What the building of a set answers.
-use Rattle.std.specs.Prelude.{◌≡◌, true, false, List, Ok, Err, vec_items, Result}
+use Rattle.std.specs.Prelude.{◌≡◌, true, false, List, Ok, Err, vec_items, codes, ℕ, Result}
 use Rattle.traces.specs.Expressions.{Exp}
 use Rattle.expressions.specs.Model.{models}
 use Rattle.sets.specs.Sets.{wide}
 use Rattle.sets.specs.declared.set.ExprSet.{ExprSet}
 use Rattle.sets.specs.declared.refusal.SetRefusal.{SetRefusal}
 use Rattle.sets.specs.declared.refusal.SetRefusal.TheVariants.{TooWide, Memory}
+
+-- what a refusal prints
+abbrev pub refusal_message : SetRefusal → List ℕ
+refusal_message TooWide = codes "the set is too wide"
+refusal_message Memory = codes "out of memory"
 
 -- why the set of these expressions is refused; want of memory can befall any
 abbrev pub Refused : SetRefusal → List Exp → Type 0

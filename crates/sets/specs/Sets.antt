@@ -1,38 +1,27 @@
 -- Sets of expressions, kept as lists in the order of the prefix forms.
-use Rattle.std.specs.Prelude.{Bool, true, ◌&&◌, ◌||◌, List, [], ◌∷◌, length, nat_lt}
-use Rattle.std.specs.Cmp.Lexicographic.{slice_cmp}
-use Rattle.std.specs.Ordering.{is_lt, nat_cmp}
-use Rattle.ordered.specs.Insertion.{insert_by, insert_all}
+use Rattle.std.specs.Prelude.{Bool, ◌||◌, List, [], length, nat_lt}
+use Rattle.std.specs.List.{list_any}
+use Rattle.std.specs.BTreeSet.{insert_key}
+use Rattle.ordered.specs.Insertion.{insert_all}
 use Rattle.traces.specs.Members.{Subset}
 use Rattle.traces.specs.Expressions.{Exp}
-use Rattle.traces.specs.Order.{symbols, size, order}
-use Rattle.sets.specs.Searches.{some}
+use Rattle.traces.specs.Order.{size, order}
 
 -- E put in at its place, unless it is there
 abbrev pub insert : Exp → List Exp → List Exp
-insert E Es = insert_by symbols (slice_cmp nat_cmp) E Es
+insert E Es = insert_key order Es E
 
 -- each of the first list put into the second in turn
 abbrev pub insert_each : List Exp → List Exp → List Exp
-insert_each Es Fs = insert_all symbols (slice_cmp nat_cmp) Es Fs
+insert_each Es Fs = insert_all order Es Fs
 
 -- the members of the list in order, each once
 abbrev pub sorted : List Exp → List Exp
 sorted Es = insert_each Es []
 
--- E comes before the first of them
-abbrev pub precedes : Exp → List Exp → Bool
-precedes E [] = true
-precedes E (F ∷ Fs) = is_lt (order E F)
-
--- each comes before the next
-abbrev pub rises : List Exp → Bool
-rises [] = true
-rises (E ∷ Es) = precedes E Es && rises Es
-
 -- one of them has more than 120 symbols
 abbrev pub any_large : List Exp → Bool
-any_large Es = some (λ E. nat_lt 120 (size E)) Es
+any_large Es = list_any (λ E. nat_lt 120 (size E)) Es
 
 -- more than 32 members, or one of more than 120 symbols
 abbrev pub wide : List Exp → Bool

@@ -1,36 +1,28 @@
 //! Lists of expressions without duplicates, in order of first appearance.
-ghost use Rattle.std.specs.Prelude.{◌≡◌, OnOk};
+ghost use Rattle.std.specs.Prelude.{◌≡◌, [], IfOk, OnOk};
 ghost use Rattle.expressions.specs.Model.{model, models};
-ghost use Rattle.sets.specs.Distinct.{is_member, append, append_each};
+ghost use Rattle.sets.specs.Distinct.{append, append_each};
 
 use expressions::Expr;
-use std::alloc::AllocError;
+use std::alloc::{AllocError, Global};
 
-fn is_member(e: &Expr, members: &[Expr]) -> bool
-    ensures { result ≡ is_member (model e.now) (models members.now) }
+/// Each of the expressions once.
+#[tactic(auto, using(crate::proofs::Appending::append_step))]
+pub(crate) fn distinct(heap: Global, es: Vec<Expr>) -> Result<Vec<Expr>, AllocError>
+    ensures { IfOk result (λ v. models v.items ≡ append_each (models es.items) []) }
 {
-    for member in members {
-        if e.equals(member) {
-            return true;
-        }
+    let mut members = Vec::new(heap);
+    for e in es {
+        append(&mut members, e)?;
     }
-    false
+    Ok(members)
 }
 
 fn append(members: &mut Vec<Expr>, e: Expr) -> Result<(), AllocError>
     ensures { OnOk result (models members.new.items ≡ append (model e) (models members.old.items)) }
 {
-    if !is_member(&e, members.as_slice()) {
+    if !members.contains(&e) {
         members.push(e)?;
-    }
-    Ok(())
-}
-
-pub(crate) fn append_each(members: &mut Vec<Expr>, es: Vec<Expr>) -> Result<(), AllocError>
-    ensures { OnOk result (models members.new.items ≡ append_each (models es.items) (models members.old.items)) }
-{
-    for e in es {
-        append(members, e)?;
     }
     Ok(())
 }

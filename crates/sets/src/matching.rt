@@ -1,14 +1,11 @@
 //! Plain matching of words, which is the matching of traces where no events are independent.
-ghost use Rattle.std.specs.Prelude.{◌≡◌, [], IfOk, Decides};
-ghost use Rattle.traces.specs.Words.{never};
+ghost use Rattle.std.specs.Prelude.{IfOk, Decides};
 ghost use Rattle.traces.specs.Expressions.{Matches};
-ghost use Rattle.traces.specs.Derivatives.{next};
-ghost use Rattle.expressions.specs.Model.{model, models};
-ghost use Rattle.sets.specs.Distinct.{append_each};
+ghost use Rattle.expressions.specs.Model.{model};
 
-use crate::distinct::append_each;
+use crate::distinct::distinct;
 use crate::nullable::any_nullable;
-use derivatives::derivatives;
+use derivatives::Step;
 use expressions::Expr;
 use independence::never::Never;
 use std::alloc::{AllocError, Global};
@@ -17,21 +14,14 @@ use std::alloc::{AllocError, Global};
 pub fn matches(heap: Global, e: &Expr, word: &[usize]) -> Result<bool, AllocError>
     ensures { IfOk result (λ answer. Decides answer (Matches (model e.now) word.now)) }
 {
-    let mut members = Vec::new(heap);
-    members.push(e.copy(heap)?)?;
+    let mut members = vec![in heap; e.clone()?]?;
     for event in word {
-        members = advance(heap, members.as_slice(), *event)?;
+        let step = Step {
+            heap,
+            rule: &Never,
+            event: *event,
+        };
+        members = distinct(heap, step.all_derivatives(&members)?)?;
     }
-    Ok(any_nullable(members.as_slice()))
-}
-
-// All derivatives of the members, each once.
-fn advance(heap: Global, members: &[Expr], event: usize) -> Result<Vec<Expr>, AllocError>
-    ensures { IfOk result (λ v. models v.items ≡ append_each (next never event (models members.now)) []) }
-{
-    let mut out = Vec::new(heap);
-    for member in members {
-        append_each(&mut out, derivatives(heap, &Never, event, member)?)?;
-    }
-    Ok(out)
+    Ok(any_nullable(&members))
 }

@@ -9,10 +9,5 @@ use expressions::Expr;
 pub fn any_nullable(members: &[Expr]) -> bool
     ensures { Decides result (Any (λ E. nullable E ≡ true) (models members.now)) }
 {
-    for member in members {
-        if member.is_nullable() {
-            return true;
-        }
-    }
-    false
+    members.iter().any(|member| member.is_nullable())
 }

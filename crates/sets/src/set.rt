@@ -1,6 +1,8 @@
-ghost use Rattle.std.specs.Prelude.{◌≡◌, true, false};
+ghost use Rattle.std.specs.Prelude.{◌≡◌, false};
+ghost use Rattle.std.specs.List.Sorted.{IsStrictlySortedBy, IsStrictlySortedBy-prop};
+ghost use Rattle.traces.specs.Order.{order};
 ghost use Rattle.expressions.specs.Model.{models};
-ghost use Rattle.sets.specs.Sets.{wide, rises};
+ghost use Rattle.sets.specs.Sets.{wide};
 
 use expressions::Expr;
 
@@ -17,10 +19,11 @@ pub const MOST_SYMBOLS: usize = 120;
 pub struct ExprSet {
     members: Vec<Expr>,
     ghost narrow: { wide (models members.items) ≡ false },
-    ghost rising: { rises (models members.items) ≡ true },
+    ghost rising: { IsStrictlySortedBy order (models members.items) } by { IsStrictlySortedBy-prop order (models members.items) },
 }
 
 impl ExprSet {
+    /// The members in rising order.
     pub fn members(&self) -> &[Expr]
         ensures { result.now ≡ self.now.members.items }
     {

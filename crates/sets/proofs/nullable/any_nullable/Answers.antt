@@ -1,22 +1,16 @@
-use Rattle.std.proofs.Common.{sym, ◌∙◌, arith}
+use Rattle.std.proofs.Common.{rules, sym, ◌∙◌}
 use Rattle.std.proofs.lemmas.Bool.Decides.{Decides-at}
+use Rattle.std.proofs.lemmas.Iterator.{YieldsList-from_slice}
+use Rattle.std.proofs.lemmas.Iterator.Search.{any_from_yields_List}
+use borrow.Author.Tests.{tests}
 use Rattle.traces.specs.Derivatives.{nullable}
-use Rattle.expressions.specs.Model.{models}
-use Rattle.sets.proofs.Searching.{some_decides, some_here, some_later, some_nowhere}
+use Rattle.expressions.specs.Model.{model, models}
+use Rattle.sets.proofs.Searching.{some_decides, list_any-models}
 use Rattle.sets.proofs.nullable.any_nullable.Goals as goal
-
-pub returns-then-is_nullable : goal.returns-then-is_nullable
-returns-then-is_nullable c =
-    Decides-at _ _ (some_here nullable c.args.members.now c.loop-member.member-index c.loop-member.invariant
-    c.member-item.result c.loop-member-test.true c.member-item.is (sym c.is_nullable.ensures ∙ c.if-is_nullable.true))
-    (some_decides nullable (models c.args.members.now))
-
-pub loop-member-preserved : goal.loop-member-preserved
-loop-member-preserved c =
-    some_later nullable c.args.members.now c.loop-member.member-index c.loop-member.invariant
-    c.member-item.result c.loop-member-test.true c.member-item.is (sym c.is_nullable.ensures ∙ c.if-is_nullable.false)
 
 pub returns : goal.returns
 returns c =
-    Decides-at _ _ (some_nowhere nullable c.args.members.now c.loop-member.member-index c.loop-member.invariant (omega arith))
+    Decides-at _ _
+    (any_from_yields_List (λ e. nullable (model e)) _ _ c.any.result c.any.ensures.ran (YieldsList-from_slice c.args.members.now cc) (λ x b q k. search (rules, tests))
+    ∙ sym (list_any-models nullable c.args.members.now))
     (some_decides nullable (models c.args.members.now))
