@@ -1,4 +1,5 @@
-// The lines that the program prints.
+//! The lines that the program prints.
+use bstr::BStr;
 use independence::apart::Apart;
 use independence::both::Both;
 use independence::footprints::Footprints;
@@ -6,136 +7,102 @@ use independence::pairs::independent_pairs;
 use independence::relation::Independence;
 use lines::fault::Refusal;
 use std::alloc::{AllocError, Global};
+use std::io::{self, ErrorKind};
 use tables::apart::{PAIR_LIMIT, read_apart};
 use tables::events::EventTable;
+use tables::row::Access;
 
-fn push_number(out: &mut Vec<u8>, heap: Global, n: usize) -> Result<(), AllocError> {
-    let digits = n.to_string(heap)?;
-    out.extend_from_slice(digits.as_bytes())
+// A name to be shown; nothing for a number that has none.
+fn shown(name: Option<&[u8]>) -> BStr<'_> {
+    BStr::new(name.unwrap_or(b""))
 }
 
-fn push_field(out: &mut Vec<u8>, name: Option<&[u8]>) -> Result<(), AllocError> {
-    out.push(b',')?;
-    match name {
-        Some(bytes) => out.extend_from_slice(bytes),
-        None => Ok(()),
+// What is printed of a table, as far as it is written.
+#[derive(Drop)]
+struct Listing<'t> {
+    table: &'t EventTable<'t>,
+    out: String,
+}
+
+impl<'t> Listing<'t> {
+    fn process_name(&self, event: usize) -> Option<&'t [u8]> {
+        self.table.processes().get(self.table.process(event)?)
     }
-}
 
-fn process_name<'a>(table: &EventTable<'a>, event: usize) -> Option<&'a [u8]> {
-    table.process_name(table.process(event)?)
-}
-
-fn push_cell(out: &mut Vec<u8>, name: Option<&[u8]>) -> Result<(), AllocError> {
-    out.push(b' ')?;
-    out.extend_from_slice(name.unwrap_or(b""))
-}
-
-fn push_reads(out: &mut Vec<u8>, table: &EventTable<'_>, event: usize) -> Result<(), AllocError> {
-    out.extend_from_slice(b",reads")?;
-    for cell in 0..table.cell_count() {
-        if table.reads(event, cell) {
-            push_cell(out, table.cell_name(cell))?;
+    // A field with the cells that the event reads or writes.
+    fn push_cells(&mut self, what: &str, event: usize, access: Access) -> Result<(), AllocError> {
+        write!(self.out, ",{what}")?;
+        for (cell, name) in self.table.cells().iter().enumerate() {
+            if self.table.lists(event, access, cell) {
+                write!(self.out, " {}", BStr::new(name))?;
+            }
         }
+        Ok(())
     }
-    Ok(())
-}
 
-fn push_writes(out: &mut Vec<u8>, table: &EventTable<'_>, event: usize) -> Result<(), AllocError> {
-    out.extend_from_slice(b",writes")?;
-    for cell in 0..table.cell_count() {
-        if table.writes(event, cell) {
-            push_cell(out, table.cell_name(cell))?;
+    // A line for each event: number, name, process, and the cells that it reads and writes.
+    fn push_events(&mut self) -> Result<(), AllocError> {
+        for (event, name) in self.table.events().iter().enumerate() {
+            let process = shown(self.process_name(event));
+            write!(self.out, "{event},{},{process}", BStr::new(name))?;
+            self.push_cells("reads", event, Access::Read)?;
+            self.push_cells("writes", event, Access::Write)?;
+            self.out.push_str("\r\n")?;
         }
+        Ok(())
     }
-    Ok(())
+
+    // A line for each two events that may change places.
+    fn push_pairs<I: Independence>(&mut self, heap: Global, rule: &I) -> Result<(), AllocError> {
+        let events = self.table.events();
+        for (a, b) in independent_pairs(heap, rule)? {
+            let (a, b) = (shown(events.get(a)), shown(events.get(b)));
+            write!(self.out, "independent,{a},{b}\r\n")?;
+        }
+        Ok(())
+    }
 }
 
-// A line for each event: number, name, process, and the cells that it reads and writes.
-fn push_table(out: &mut Vec<u8>, heap: Global, table: &EventTable<'_>) -> Result<(), AllocError> {
-    for event in 0..table.event_count() {
-        push_number(out, heap, event)?;
-        push_field(out, table.name(event))?;
-        push_field(out, process_name(table, event))?;
-        push_reads(out, table, event)?;
-        push_writes(out, table, event)?;
-        out.extend_from_slice(b"\r\n")?;
-    }
-    Ok(())
-}
-
-// A line for each two events that may change places.
-fn push_pairs<I: Independence>(
-    out: &mut Vec<u8>,
-    heap: Global,
-    table: &EventTable<'_>,
-    rule: &I,
-) -> Result<(), AllocError> {
-    for (a, b) in independent_pairs(heap, rule)? {
-        out.extend_from_slice(b"independent")?;
-        push_field(out, table.name(a))?;
-        push_field(out, table.name(b))?;
-        out.extend_from_slice(b"\r\n")?;
-    }
-    Ok(())
-}
-
-// A report's header, and the record of a fault; want of memory is no record.
-fn push_fault(
-    out: &mut Vec<u8>,
-    heap: Global,
-    kind: &[u8],
-    refusal: Option<Refusal>,
-) -> Result<(), AllocError> {
-    let Some(refusal) = refusal else {
-        return Err(AllocError);
+// A report's header and the record of a fault; want of memory is no record.
+fn fault_report(heap: Global, kind: &str, refusal: Option<Refusal>) -> io::Result<String> {
+    let Some(Refusal { place, number, .. }) = refusal else {
+        return Err(ErrorKind::OutOfMemory.into());
     };
-    out.extend_from_slice(b"kind,place,event\r\n")?;
-    out.extend_from_slice(kind)?;
-    out.push(b',')?;
-    push_number(out, heap, refusal.place)?;
-    out.push(b',')?;
-    push_number(out, heap, usize::from(refusal.number))?;
-    out.extend_from_slice(b"\r\n")
+    Ok(format!(in heap; "kind,place,event\r\n{kind},{place},{number}\r\n")?)
 }
 
 // The events, and which of them are independent by their cells and by the pairs of processes that may run apart.
-fn push_rules<'x>(
-    out: &mut Vec<u8>,
+fn rules<'x>(
     heap: Global,
     table: &'x EventTable<'x>,
     pairs: &'x [(usize, usize)],
-) -> Result<(), AllocError> {
-    push_table(out, heap, table)?;
+) -> Result<String, AllocError> {
+    let mut listing = Listing {
+        table,
+        out: String::new(heap),
+    };
+    listing.push_events()?;
     let rule = Both {
         first: Footprints::new(table),
         second: Apart::new(table, pairs),
     };
-    push_pairs(out, heap, table, &rule)
+    listing.push_pairs(heap, &rule)?;
+    let Listing { out, .. } = listing;
+    Ok(out)
 }
 
-fn push_apart<'x>(
-    out: &mut Vec<u8>,
-    heap: Global,
-    table: &'x EventTable<'x>,
-    apart: &[u8],
-) -> Result<(), AllocError> {
+fn with_apart<'x>(heap: Global, table: &'x EventTable<'x>, apart: &[u8]) -> io::Result<String> {
     let mut store = [(0, 0); PAIR_LIMIT];
     match read_apart(table, apart, &mut store) {
-        Ok(count) => push_rules(out, heap, &*table, &store[0..count]),
-        Err(fault) => push_fault(out, heap, b"fault-apart", fault.refusal()),
+        Ok(count) => Ok(rules(heap, table, &store[..count])?),
+        Err(fault) => fault_report(heap, "fault-apart", fault.refusal()),
     }
 }
 
 // What is printed for the texts of an event table and an apart list.
-pub(crate) fn push_texts(
-    out: &mut Vec<u8>,
-    heap: Global,
-    events: &[u8],
-    apart: &[u8],
-) -> Result<(), AllocError> {
+pub(crate) fn listed(heap: Global, events: &[u8], apart: &[u8]) -> io::Result<String> {
     match EventTable::read(heap, events) {
-        Ok(table) => push_apart(out, heap, &table, apart),
-        Err(fault) => push_fault(out, heap, b"fault-events", fault.refusal()),
+        Ok(table) => with_apart(heap, &table, apart),
+        Err(fault) => fault_report(heap, "fault-events", fault.refusal()),
     }
 }

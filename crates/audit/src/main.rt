@@ -1,5 +1,5 @@
-// Reads the event table and the apart list of the folder that it is run in, and prints the events and which of them
-// are independent, or why one of the texts is refused.
+//! Reads the event table and the apart list of the folder that it is run in, and prints the events and which of them
+//! are independent, or why one of the texts is refused.
 #![tactic(auto)]
 
 use std::io::{Read, Write};
@@ -30,7 +30,6 @@ fn read_named(rt: &HostRuntime, path: &str, limit: usize) -> io::Result<Vec<u8>>
 fn main(rt: HostRuntime) -> io::Result<()> {
     let events = read_named(&rt, "events.csv", EVENTS_LIMIT)?;
     let apart = read_named(&rt, "apart.csv", APART_LIMIT)?;
-    let mut out = Vec::new(rt.alloc());
-    listing::push_texts(&mut out, rt.alloc(), events.as_slice(), apart.as_slice())?;
-    rt.stdout().write_all(out.as_slice())
+    let listed = listing::listed(rt.alloc(), events.as_slice(), apart.as_slice())?;
+    rt.stdout().write_all(listed.as_bytes())
 }

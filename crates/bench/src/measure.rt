@@ -8,6 +8,7 @@ pub struct Stopwatch {
 }
 
 impl Stopwatch {
+    /// Starts now.
     pub fn start(rt: &HostRuntime) -> io::Result<Stopwatch> {
         Ok(Stopwatch {
             start: Instant::now(rt)?,

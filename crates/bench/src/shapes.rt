@@ -10,7 +10,7 @@ pub fn events_text(heap: Global) -> Result<String, AllocError> {
     let mut text = String::new(heap);
     text.push_str("event,process,reads,writes\r\n")?;
     for i in 0..60 {
-        text.push_str(format!(in heap; "e{i},p,,c{i}\r\n")?.as_str())?;
+        write!(text, "e{i},p,,c{i}\r\n")?;
     }
     Ok(text)
 }

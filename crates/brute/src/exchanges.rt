@@ -2,8 +2,8 @@ use crate::pairs::Pairs;
 use independence::relation::Independence;
 use std::alloc::{AllocError, Global};
 
-// A word of five events has fewer orders than these.
-const MOST_WORDS: usize = 120;
+// So many exchanges make any order of five events of any other.
+const MOST_EXCHANGES: usize = 10;
 
 /// Every word that exchanges of neighbouring independent events make of the word.
 pub fn reachable(
@@ -11,40 +11,29 @@ pub fn reachable(
     rule: &Pairs,
     word: &[usize],
 ) -> Result<Vec<Vec<usize>>, AllocError> {
-    let mut words = Vec::new(heap);
-    words.push(word.to_vec(heap)?)?;
-    for i in 0..MOST_WORDS {
-        let Some(at) = words.get(i) else {
-            break;
-        };
-        let at = at.clone()?;
-        push_neighbours(heap, rule, &at, &mut words)?;
+    let mut words = vec![in heap; word.to_vec(heap)?]?;
+    for _ in 0..MOST_EXCHANGES {
+        for word in words.clone()? {
+            add_exchanged(rule, &word, &mut words)?;
+        }
     }
     Ok(words)
 }
 
-fn push_neighbours(
-    heap: Global,
+// Adds what one exchange makes of the word, unless it is among the words.
+fn add_exchanged(
     rule: &Pairs,
-    word: &[usize],
+    word: &Vec<usize>,
     words: &mut Vec<Vec<usize>>,
 ) -> Result<(), AllocError> {
-    for i in 1..word.len() {
-        if rule.independent(word[i - 1], word[i]) {
-            let mut other = word.to_vec(heap)?;
-            other.swap(i - 1, i);
-            push_new(words, other)?;
+    for (i, [a, b]) in word.array_windows::<2>().enumerate() {
+        if rule.independent(*a, *b) {
+            let mut other = word.clone()?;
+            other.swap(i, i + 1);
+            if !words.contains(&other) {
+                words.push(other)?;
+            }
         }
     }
-    Ok(())
-}
-
-fn push_new(words: &mut Vec<Vec<usize>>, word: Vec<usize>) -> Result<(), AllocError> {
-    for known in words.iter() {
-        if *known == word {
-            return Ok(());
-        }
-    }
-    words.push(word)?;
     Ok(())
 }

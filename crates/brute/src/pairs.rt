@@ -22,13 +22,11 @@ impl Relation for Pairs {
 
 impl Independence for Pairs {
     fn independent(&self, a: usize, b: usize) -> bool {
-        if a >= 3 || b >= 3 || a == b {
-            return false;
-        }
-        match a + b {
-            1 => self.low,
-            2 => self.outer,
-            _ => self.high,
+        match (a, b) {
+            (0, 1) | (1, 0) => self.low,
+            (0, 2) | (2, 0) => self.outer,
+            (1, 2) | (2, 1) => self.high,
+            _ => false,
         }
     }
 }

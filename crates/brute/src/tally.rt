@@ -1,10 +1,11 @@
 use crate::exchanges::reachable;
 use crate::pairs::Pairs;
 use crate::plain::is_word;
-use anyhow::anyhow;
+use derivatives::Step;
 use expressions::Expr;
 use sets::{SetRefusal, any_nullable, next_set};
 use std::alloc::Global;
+use std::slice;
 
 /// How often a word was in the closure of an expression, or a word of it, and how the sets decided.
 #[derive(Clone, Copy, Default)]
@@ -15,6 +16,7 @@ pub struct Tally {
     pub wrong: u64,
 }
 
+/// How the sets decide each word of each expression, held to the search.
 pub fn compared(
     heap: Global,
     rule: &Pairs,
@@ -24,44 +26,41 @@ pub fn compared(
     let mut found = Tally::default();
     for word in words {
         let reached = reachable(heap, rule, word)?;
-        for alone in exprs.chunks(1) {
-            let [e] = alone else {
-                continue;
-            };
-            let inside = any_word(e, reached.as_slice());
-            found.inside = counted(found.inside, inside);
-            found.plain = counted(found.plain, is_word(e, word));
-            match decide(heap, rule, alone, word) {
-                Ok(decided) => found.wrong = counted(found.wrong, decided != inside),
-                Err(SetRefusal::TooWide) => found.too_wide = counted(found.too_wide, true),
-                Err(SetRefusal::Memory) => return Err(anyhow!("no memory")),
+        for e in exprs {
+            let inside = reached.iter().any(|reached| is_word(e, reached));
+            count(&mut found.inside, inside);
+            count(&mut found.plain, is_word(e, word));
+            match decide(heap, rule, slice::from_ref(e), word) {
+                Ok(decided) => count(&mut found.wrong, decided != inside),
+                Err(SetRefusal::TooWide) => count(&mut found.too_wide, true),
+                Err(refusal) => return Err(refusal.into()),
             }
         }
     }
     Ok(found)
 }
 
-fn counted(count: u64, more: bool) -> u64 {
-    if more { count.saturating_add(1) } else { count }
+fn count(counter: &mut u64, more: bool) {
+    *counter = counter.saturating_add(u64::from(more));
 }
 
-fn any_word(e: &Expr, words: &[Vec<usize>]) -> bool {
-    for word in words {
-        if is_word(e, word) {
-            return true;
+// By the sets after each beginning of the word, from the members on.
+fn decide(
+    heap: Global,
+    rule: &Pairs,
+    members: &[Expr],
+    word: &[usize],
+) -> Result<bool, SetRefusal> {
+    match word {
+        [] => Ok(any_nullable(members)),
+        [event, rest @ ..] => {
+            let step = Step {
+                heap,
+                rule,
+                event: *event,
+            };
+            let set = next_set(&step, members)?;
+            decide(heap, rule, set.members(), rest)
         }
     }
-    false
-}
-
-// By the sets after the word, from the one of the expression alone.
-fn decide(heap: Global, rule: &Pairs, alone: &[Expr], word: &[usize]) -> Result<bool, SetRefusal> {
-    let Some((first, rest)) = word.split_first() else {
-        return Ok(any_nullable(alone));
-    };
-    let mut set = next_set(heap, rule, alone, *first)?;
-    for event in rest {
-        set = next_set(heap, rule, set.members(), *event)?;
-    }
-    Ok(any_nullable(set.members()))
 }

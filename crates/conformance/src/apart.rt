@@ -1,3 +1,4 @@
+use crate::reading::{PlaceAndNumber, outcome, table};
 use std::alloc::{AllocError, Global};
 use std::test::Fail;
 use tables::apart::read_apart;
@@ -7,23 +8,18 @@ use tables::fault::ApartFault;
 const EVENTS: &[u8] =
     b"event,process,reads,writes\r\nout,lock,,bolt\r\ncharge,power,,cell\r\nstore,keeper,bolt,book\r\n";
 
-// The number of pairs, or the place and number of a refusal.
-fn outcome(res: Result<usize, ApartFault>) -> Result<Result<usize, (usize, u8)>, AllocError> {
-    match res {
-        Ok(count) => Ok(Ok(count)),
-        Err(fault) => match fault.refusal() {
-            Some(refusal) => Ok(Err((refusal.place, refusal.number))),
-            None => Err(AllocError),
-        },
-    }
+fn read(
+    events: &EventTable<'_>,
+    text: &[u8],
+    store: &mut [(usize, usize)],
+) -> Result<Result<usize, PlaceAndNumber>, Fail> {
+    outcome(read_apart(events, text, store).map_err(ApartFault::refusal))
 }
 
 #[test]
 fn lists(rt: HostRuntime) -> Result<(), Fail> {
-    let Ok(events) = EventTable::read(rt.alloc(), EVENTS) else {
-        return Err(Fail::new("no table"));
-    };
-    let cases: [(&[u8], Result<usize, (usize, u8)>); 15] = [
+    let events = table(rt.alloc(), EVENTS)?;
+    let cases: [(&[u8], Result<usize, PlaceAndNumber>); 15] = [
         (b"", Err((0, 4))),
         (b"left,right", Ok(0)),
         (b"left,right\r\nlock,power\r\nkeeper,power", Ok(2)),
@@ -42,23 +38,21 @@ fn lists(rt: HostRuntime) -> Result<(), Fail> {
     ];
     for (text, expected) in cases {
         let mut store = [(7, 7); 120];
-        assert_eq!(rt; outcome(read_apart(&events, text, &mut store))?, expected);
+        assert_eq!(rt; read(&events, text, &mut store)?, expected);
     }
     Ok(())
 }
 
 #[test]
 fn store(rt: HostRuntime) -> Result<(), Fail> {
-    let Ok(events) = EventTable::read(rt.alloc(), EVENTS) else {
-        return Err(Fail::new("no table"));
-    };
+    let events = table(rt.alloc(), EVENTS)?;
     let mut store = [(7, 7); 120];
     assert_eq!(rt;
-        outcome(read_apart(
+        read(
             &events,
             b"left,right\r\npower,keeper\r\npower,lock",
-            &mut store,
-        ))?,
+            &mut store
+        )?,
         Ok(2)
     );
     assert_eq!(rt; store[0], (0, 1));
@@ -67,26 +61,21 @@ fn store(rt: HostRuntime) -> Result<(), Fail> {
     Ok(())
 }
 
-// So many processes, named a to p, each of an event of its own name.
-fn processes(heap: Global) -> Result<Vec<u8>, AllocError> {
-    let mut text = Vec::new(heap);
-    text.extend_from_slice(b"event,process,reads,writes\r\n")?;
-    for name in b"abcdefghijklmnop" {
-        text.push(*name)?;
-        text.push(b',')?;
-        text.push(*name)?;
-        text.extend_from_slice(b",,\r\n")?;
+// Processes named a to p, each of an event of its own name.
+fn processes(heap: Global) -> Result<String, AllocError> {
+    let mut text = String::from_str(heap, "event,process,reads,writes\r\n")?;
+    for name in 'a'..='p' {
+        write!(text, "{name},{name},,\r\n")?;
     }
     Ok(text)
 }
 
-fn all_pairs(heap: Global) -> Result<Vec<u8>, AllocError> {
-    let mut text = Vec::new(heap);
-    text.extend_from_slice(b"left,right\r\n")?;
-    for left in b"abcdefghijklmnop" {
-        for right in b"abcdefghijklmnop" {
+fn all_pairs(heap: Global) -> Result<String, AllocError> {
+    let mut text = String::from_str(heap, "left,right\r\n")?;
+    for left in 'a'..='p' {
+        for right in 'a'..='p' {
             if left < right {
-                text.extend_from_slice(&[*right, b',', *left, b'\r', b'\n'])?;
+                write!(text, "{right},{left}\r\n")?;
             }
         }
     }
@@ -95,21 +84,13 @@ fn all_pairs(heap: Global) -> Result<Vec<u8>, AllocError> {
 
 #[test]
 fn all_pairs_fit(rt: HostRuntime) -> Result<(), Fail> {
-    let table = processes(rt.alloc())?;
-    let Ok(events) = EventTable::read(rt.alloc(), table.as_slice()) else {
-        return Err(Fail::new("no table"));
-    };
+    let processes = processes(rt.alloc())?;
+    let events = table(rt.alloc(), processes.as_bytes())?;
     let text = all_pairs(rt.alloc())?;
     let mut store = [(0, 0); 120];
-    assert_eq!(rt;
-        outcome(read_apart(&events, text.as_slice(), &mut store))?,
-        Ok(120)
-    );
+    assert_eq!(rt; read(&events, text.as_bytes(), &mut store)?, Ok(120));
     assert_eq!(rt; store[119], (14, 15));
     let mut short = [(0, 0); 119];
-    assert_eq!(rt;
-        outcome(read_apart(&events, b"left,right", &mut short))?,
-        Err((0, 24))
-    );
+    assert_eq!(rt; read(&events, b"left,right", &mut short)?, Err((0, 24)));
     Ok(())
 }

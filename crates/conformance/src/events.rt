@@ -1,54 +1,54 @@
+use crate::reading::{PlaceAndNumber, outcome};
 use std::alloc::{AllocError, Global};
 use std::test::Fail;
 use tables::events::EventTable;
+use tables::fault::NamesFault;
 
-const HEADER: &[u8] = b"event,process,reads,writes\r\n";
+const HEADER: &str = "event,process,reads,writes\r\n";
 
 // The place and number of a refusal, or none.
-fn refused(heap: Global, text: &[u8]) -> Result<Option<(usize, u8)>, AllocError> {
-    match EventTable::read(heap, text) {
-        Ok(_) => Ok(None),
-        Err(fault) => match fault.refusal() {
-            Some(refusal) => Ok(Some((refusal.place, refusal.number))),
-            None => Err(AllocError),
-        },
-    }
+fn refused(heap: Global, text: &[u8]) -> Result<Option<PlaceAndNumber>, Fail> {
+    let read = outcome(EventTable::read(heap, text).map_err(NamesFault::refusal))?;
+    Ok(read.err())
 }
 
 // The header and then some records.
 fn with_header(heap: Global, records: &[u8]) -> Result<Vec<u8>, AllocError> {
     let mut text = Vec::new(heap);
-    text.extend_from_slice(HEADER)?;
+    text.extend_from_slice(HEADER.as_bytes())?;
     text.extend_from_slice(records)?;
     Ok(text)
 }
 
-// So many records, in which the name in one column has a number of two digits.
-fn many(heap: Global, count: usize, column: usize) -> Result<Vec<u8>, AllocError> {
-    let mut text = with_header(heap, b"")?;
+// What each record has one of its own of; one with its own process has its own event too.
+#[derive(Clone, Copy)]
+enum Own {
+    Event,
+    Process,
+    Cell,
+}
+
+// So many records, whose own names have a number of two digits.
+fn many(heap: Global, count: usize, own: Own) -> Result<String, AllocError> {
+    let mut text = String::from_str(heap, HEADER)?;
     for i in 0..count {
-        for part in 0..3 {
-            text.push(b'a')?;
-            if part == column || (part == 0 && column == 1) {
-                let digits = i.saturating_add(10).to_string(heap)?;
-                text.extend_from_slice(digits.as_bytes())?;
-            }
-            text.push(b',')?;
+        let n = i.saturating_add(10);
+        match own {
+            Own::Event => write!(text, "a{n},a,a,\r\n")?,
+            Own::Process => write!(text, "a{n},a{n},a,\r\n")?,
+            Own::Cell => write!(text, "a,a,a{n},\r\n")?,
         }
-        text.extend_from_slice(b"\r\n")?;
     }
     Ok(text)
 }
 
 // A text of 8,192 bytes and `more`.
-fn long(heap: Global, more: &[u8]) -> Result<Vec<u8>, AllocError> {
-    let mut text = with_header(heap, b"")?;
+fn long(heap: Global, more: &str) -> Result<String, AllocError> {
+    let mut text = String::from_str(heap, HEADER)?;
     for _ in 0..1165 {
-        text.extend_from_slice(b"a,p,,\r\n")?;
+        text.push_str("a,p,,\r\n")?;
     }
-    text.extend_from_slice(b"a,p,x")?;
-    text.extend_from_slice(more)?;
-    text.extend_from_slice(b",y\r\n")?;
+    write!(text, "a,p,x{more},y\r\n")?;
     Ok(text)
 }
 
@@ -57,7 +57,7 @@ fn whole_texts(rt: HostRuntime) -> Result<(), Fail> {
     let heap = rt.alloc();
     assert_eq!(rt; refused(heap, b"")?, Some((0, 4)));
     assert_eq!(rt; refused(heap, b"event,process,reads,writes")?, None);
-    assert_eq!(rt; refused(heap, HEADER)?, None);
+    assert_eq!(rt; refused(heap, HEADER.as_bytes())?, None);
     assert_eq!(rt;
         refused(heap, b"event,process,reads,writes\r")?,
         Some((26, 3))
@@ -85,7 +85,7 @@ fn whole_texts(rt: HostRuntime) -> Result<(), Fail> {
 #[test]
 fn records_behind_a_header(rt: HostRuntime) -> Result<(), Fail> {
     let heap = rt.alloc();
-    let cases: [(&[u8], Option<(usize, u8)>); 18] = [
+    let cases: [(&[u8], Option<PlaceAndNumber>); 18] = [
         (b"a,p,,", None),
         (b"a,p,x y,y z\r\n", None),
         (b"a,p,,\r\na,p,x,\r\n", None),
@@ -115,23 +115,23 @@ fn records_behind_a_header(rt: HostRuntime) -> Result<(), Fail> {
 #[test]
 fn limits(rt: HostRuntime) -> Result<(), Fail> {
     let heap = rt.alloc();
-    // records of 10 bytes, but for those with a number in the second column too, of 12
+    // records of 10 bytes, but for those with a process of their own, of 12
     let cases = [
-        (64, 0, None),
-        (65, 0, Some((668, 7))),
-        (16, 1, None),
-        (17, 1, Some((224, 7))),
-        (64, 2, None),
-        (65, 2, Some((672, 7))),
+        (64, Own::Event, None),
+        (65, Own::Event, Some((668, 7))),
+        (16, Own::Process, None),
+        (17, Own::Process, Some((224, 7))),
+        (64, Own::Cell, None),
+        (65, Own::Cell, Some((672, 7))),
     ];
-    for (count, column, expected) in cases {
-        let text = many(heap, count, column)?;
-        assert_eq!(rt; refused(heap, text.as_slice())?, expected);
+    for (count, own, expected) in cases {
+        let text = many(heap, count, own)?;
+        assert_eq!(rt; refused(heap, text.as_bytes())?, expected);
     }
-    let fits = long(heap, b"")?;
+    let fits = long(heap, "")?;
     assert_eq!(rt; fits.len(), 8192);
-    assert_eq!(rt; refused(heap, fits.as_slice())?, None);
-    let over = long(heap, b"x")?;
-    assert_eq!(rt; refused(heap, over.as_slice())?, Some((0, 1)));
+    assert_eq!(rt; refused(heap, fits.as_bytes())?, None);
+    let over = long(heap, "x")?;
+    assert_eq!(rt; refused(heap, over.as_bytes())?, Some((0, 1)));
     Ok(())
 }

@@ -1,45 +1,36 @@
-use std::alloc::AllocError;
+use crate::reading::{EVENTS, PlaceAndNumber, outcome, table};
 use std::process::Abort;
 use std::test::Fail;
 use tables::events::EventTable;
 use tables::fault::NamesFault;
 use tables::log::LogReader;
 
-const EVENTS: &[u8] = b"event,process,reads,writes\r\nout,lock,,bolt\r\ncharge,power,,cell\r\n";
-
-fn place_and_number(fault: NamesFault) -> Result<(usize, u8), AllocError> {
-    match fault.refusal() {
-        Some(refusal) => Ok((refusal.place, refusal.number)),
-        None => Err(AllocError),
-    }
-}
-
 // How many events there are up to the end or a refusal, which is given with its place and number.
 fn read<'x>(
     events: &'x EventTable<'x>,
     text: &'x [u8],
-) -> Result<(usize, Option<(usize, u8)>), AllocError> {
-    let mut log = match LogReader::open(events, text) {
-        Ok(log) => log,
-        Err(fault) => return Ok((0, Some(place_and_number(fault)?))),
-    };
-    let mut count = 0usize;
-    for _ in 0..text.len() {
-        match log.next_event() {
-            Ok(Some(_)) => count = count.saturating_add(1),
-            Ok(None) => return Ok((count, None)),
-            Err(fault) => return Ok((count, Some(place_and_number(fault)?))),
+) -> Result<(usize, Option<PlaceAndNumber>), Fail> {
+    match outcome(LogReader::open(events, text).map_err(NamesFault::refusal))? {
+        Ok(log) => count(log, text.len()),
+        Err(refusal) => Ok((0, Some(refusal))),
+    }
+}
+
+fn count(mut log: LogReader<'_>, most: usize) -> Result<(usize, Option<PlaceAndNumber>), Fail> {
+    for events in 0..most {
+        match outcome(log.next_event().map_err(NamesFault::refusal))? {
+            Ok(Some(_)) => (),
+            Ok(None) => return Ok((events, None)),
+            Err(refusal) => return Ok((events, Some(refusal))),
         }
     }
-    Ok((count, None))
+    Ok((most, None))
 }
 
 #[test]
 fn logs(rt: HostRuntime) -> Result<(), Fail> {
-    let Ok(events) = EventTable::read(rt.alloc(), EVENTS) else {
-        return Err(Fail::new("no table"));
-    };
-    let cases: [(&[u8], (usize, Option<(usize, u8)>)); 11] = [
+    let events = table(rt.alloc(), EVENTS)?;
+    let cases: [(&[u8], (usize, Option<PlaceAndNumber>)); 11] = [
         (b"", (0, Some((0, 5)))),
         (b"event", (0, None)),
         (b"event\r\n", (0, None)),
@@ -63,9 +54,7 @@ static LONG: [u8; 16385] = [b'x'; 16385];
 
 #[test]
 fn limits_and_repeats(rt: HostRuntime) -> Result<(), Fail> {
-    let Ok(events) = EventTable::read(rt.alloc(), EVENTS) else {
-        return Err(Fail::new("no table"));
-    };
+    let events = table(rt.alloc(), EVENTS)?;
     assert_eq!(rt; read(&events, &LONG[0..16384])?, (0, Some((0, 5))));
     assert_eq!(rt; read(&events, &LONG)?, (0, Some((0, 1))));
     again(&rt, &events, b"event\r\nin\r\n")
@@ -77,10 +66,8 @@ fn again<'x>(rt: &impl Abort, events: &'x EventTable<'x>, text: &'x [u8]) -> Res
         return Err(Fail::new("no log"));
     };
     for _ in 0..2 {
-        match log.next_event() {
-            Ok(_) => return Err(Fail::new("an unknown event was read")),
-            Err(fault) => assert_eq!(rt; place_and_number(fault)?, (7, 8)),
-        }
+        let read = outcome(log.next_event().map_err(NamesFault::refusal))?;
+        assert_eq!(rt; read, Err((7, 8)));
     }
     Ok(())
 }
