@@ -53,7 +53,10 @@ fn time_next_set<I: Independence>(
     step: &Step<'_, I>,
     members: &[Expr],
 ) -> anyhow::Result<()> {
-    let built = timed(rt, what, || Ok(next_set(step, members)?.members().len()))?;
+    let built = timed(rt, what, || {
+        let set = next_set(step, members).map_err(|_| anyhow!("the next set was refused"))?;
+        Ok(set.members().len())
+    })?;
     println!(rt; "{what}: {} members, next {built}", members.len())?;
     Ok(())
 }
@@ -78,7 +81,7 @@ fn small<I: Independence>(rt: &HostRuntime, rule: &I) -> anyhow::Result<()> {
 fn wide<I: Independence>(rt: &HostRuntime, rule: &I) -> anyhow::Result<()> {
     let step = step_by(rt, rule, 0);
     let e = stars(rt.alloc(), 32)?;
-    let set = next_set(&step, slice::from_ref(&e))?;
+    let set = next_set(&step, slice::from_ref(&e)).map_err(|_| anyhow!("the first set was refused"))?;
     time_next_set(rt, "32 stars, next set", &step, set.members())
 }
 

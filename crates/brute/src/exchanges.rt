@@ -12,8 +12,12 @@ pub fn reachable(
     word: &[usize],
 ) -> Result<Vec<Vec<usize>>, AllocError> {
     let mut words = vec![in heap; word.to_vec(heap)?]?;
+    let mut done = 0;
     for _ in 0..MOST_EXCHANGES {
-        for word in words.clone()? {
+        // Only what the last round found can make new words.
+        let found = words.get(done..).unwrap_or_default().to_vec(heap)?;
+        done = words.len();
+        for word in found {
             add_exchanged(rule, &word, &mut words)?;
         }
     }

@@ -1,6 +1,7 @@
 use crate::exchanges::reachable;
 use crate::pairs::Pairs;
 use crate::plain::is_word;
+use anyhow::anyhow;
 use derivatives::Step;
 use expressions::Expr;
 use sets::{SetRefusal, any_nullable, next_set};
@@ -33,7 +34,7 @@ pub fn compared(
             match decide(heap, rule, slice::from_ref(e), word) {
                 Ok(decided) => count(&mut found.wrong, decided != inside),
                 Err(SetRefusal::TooWide) => count(&mut found.too_wide, true),
-                Err(refusal) => return Err(refusal.into()),
+                Err(SetRefusal::Memory) => return Err(anyhow!("no memory")),
             }
         }
     }
@@ -44,23 +45,20 @@ fn count(counter: &mut u64, more: bool) {
     *counter = counter.saturating_add(u64::from(more));
 }
 
-// By the sets after each beginning of the word, from the members on.
+// By the sets after each beginning of the word, of which only the last is kept.
 fn decide(
     heap: Global,
     rule: &Pairs,
     members: &[Expr],
     word: &[usize],
 ) -> Result<bool, SetRefusal> {
-    match word {
-        [] => Ok(any_nullable(members)),
-        [event, rest @ ..] => {
-            let step = Step {
-                heap,
-                rule,
-                event: *event,
-            };
-            let set = next_set(&step, members)?;
-            decide(heap, rule, set.members(), rest)
-        }
+    let after = |members: &[Expr], event: usize| next_set(&Step { heap, rule, event }, members);
+    let Some((first, rest)) = word.split_first() else {
+        return Ok(any_nullable(members));
+    };
+    let mut set = after(members, *first)?;
+    for event in rest {
+        set = after(set.members(), *event)?;
     }
+    Ok(any_nullable(set.members()))
 }

@@ -1,8 +1,15 @@
 -- The fields that a separator parts, one byte at a time.
-use Rattle.std.proofs.Common.{◌≡◌, ℕ, ◌+◌, ◌<◌, ◌≤◌, List, [], ◌∷◌, length, get_or, drop, ap, ◌∙◌, add_assoc}
+use Rattle.std.proofs.Common.{◌≡◌, ℕ, ◌+◌, ◌<◌, ◌≤◌, eqb, List, [], ◌∷◌, length, get_or, drop, ap, ◌∙◌, add_assoc, arith}
 use Rattle.std.proofs.lemmas.List.{at_drop_more, at_drop_all}
-use Rattle.std.proofs.lemmas.Bool.{cond-true, cond-false, eq-eqb, ne_eqb}
+use Rattle.std.proofs.lemmas.Bool.{cond_both, cond-true, cond-false, eq-eqb, ne_eqb}
+use Rattle.lines.specs.declared.field.Field.{Field}
 use Rattle.lines.specs.Fields.{between, parted}
+
+-- there is a field at the least
+pub parted_some : (separator start at : ℕ) (bytes : List ℕ) → 1 ≤ length (parted separator start at bytes)
+parted_some separator start at [] = omega arith
+parted_some separator start at (b ∷ bs) =
+    cond_both (eqb b separator) _ _ (λ (fs : List Field). 1 ≤ length fs) (λ _. omega arith) (λ _. parted_some separator start (at + 1) bs)
 
 module _ (separator start place : ℕ) (bytes : List ℕ) (i : ℕ) where
   pub parted_here : i < length bytes → get_or bytes i 0 ≡ separator

@@ -16,11 +16,11 @@ use Rattle.tables.specs.Telling.{and_then, lifted}
 use Rattle.tables.proofs.Numbers.{same_true}
 use Rattle.tables.proofs.Turns.{and_then_made}
 
-lifted_ok : {X : Type 0} (o : Result X LinesFault) (x : X) → lifted o ≡ Ok x → o ≡ Ok x
+pub lifted_ok : {X : Type 0} (o : Result X LinesFault) (x : X) → lifted o ≡ Ok x → o ≡ Ok x
 lifted_ok (Ok y) x e = cc
 lifted_ok (Err f) x e = cc
 
-headed_is : (text : List ℕ) (f : Field) (name : List ℕ) (u : Unit {0}) → headed text f name ≡ Ok u → bytes_of text f ≡ name
+pub headed_is : (text : List ℕ) (f : Field) (name : List ℕ) (u : Unit {0}) → headed text f name ≡ Ok u → bytes_of text f ≡ name
 headed_is text f name u =
     cond_both (bytes_eq (bytes_of text f) name) _ _ (λ (o : Result (Unit {0}) NamesFault). o ≡ Ok u → bytes_of text f ≡ name)
     (λ t _. same_true (bytes_of text f) name t) (λ _ e. let z : ◌≡◌ {A = ℕ} 0 1 = cc in absurd (omega arith))

@@ -1,5 +1,7 @@
 -- Names and their numbers.
 use Rattle.std.proofs.Common.{◌≡◌, ℕ, zero, suc, ◌+◌, ◌<◌, ◌≤◌, Bool, true, false, cond, ◌||◌, leb, ◌⊎◌, List, [], ◌∷◌, ◌++◌, length, is_some, Some, None, Ok, Option, Result, sym, refl, ap, ◌∙◌, subst, inl, inr, add-zero, zero-add, arith}
+use mathlib.Core.HLevel.{Discrete, hedberg}
+use native.Mathlib.Decide.{ℕ_discrete}
 use Rattle.lines.specs.declared.field.Field.{Field}
 use Rattle.lines.specs.Fields.{bytes_of}
 use Rattle.std.proofs.lemmas.List.Elements.{All-push}
@@ -96,6 +98,16 @@ numbers_at limit text appearing fs ns n h =
     let x = name_in text fs n in
     let e = by_turns text fs x ∙ k.1 in
     e ∙ ap Some (ns.distinct k.0 n (number_below text fs x k.0 e) h (number_name text fs x k.0 e))
+
+discrete : Discrete (Option ℕ)
+discrete None None = yes refl
+discrete None (Some n) = no (λ e. let z : ◌≡◌ {A = ℕ} 0 1 = cc in omega arith)
+discrete (Some m) None = no (λ e. let z : ◌≡◌ {A = ℕ} 0 1 = cc in omega arith)
+discrete (Some m) (Some n) = elim (ℕ_discrete m n) [ yes e ↦ yes (ap Some e) | no d ↦ no (λ e. d (cc)) ]
+
+-- so that a number also follows from what is known to hold without its proof, as a type's invariant is
+pub number_prop : (o p : Option ℕ) → IsProp (o ≡ p)
+number_prop = hedberg discrete
 
 -- the name of a field has a number, and the names then
 pub record Numbered (text : List ℕ) (names : List Field) (f : Field) (limit n : ℕ) (after : List Field) : Type 0 where

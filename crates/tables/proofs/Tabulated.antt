@@ -122,3 +122,15 @@ module _ (text : List ℕ) (t : Table) (e : event_table text ≡ Ok t) where
 
   pub processes_few : length t.processes ≤ 16
   processes_few = table_says.1.processes.few
+
+  pub cells_few : length t.cells ≤ 64
+  cells_few = table_says.1.cells.few
+
+  pub event_number : (n : ℕ) → n < length t.events → number_of text t.events (name_in text t.events n) ≡ Some n
+  event_number = numbers_at 64 text _ t.events table_says.1.events
+
+  pub process_number : (n : ℕ) → n < length t.processes → number_of text t.processes (name_in text t.processes n) ≡ Some n
+  process_number = numbers_at 16 text _ t.processes table_says.1.processes
+
+  pub cell_number : (n : ℕ) → n < length t.cells → number_of text t.cells (name_in text t.cells n) ≡ Some n
+  cell_number = numbers_at 64 text _ t.cells table_says.1.cells
