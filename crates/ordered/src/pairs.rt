@@ -1,7 +1,6 @@
 //! Numbers by size, and pairs of numbers by the first and then the second.
 ghost use Rattle.std.specs.Prelude.{ℕ};
-ghost use Rattle.ordered.specs.Numbers.{number_order, pair_order};
-ghost use Rattle.std.proofs.Common.{rules};
+ghost use Rattle.ordered.specs.Numbers.{number_order, numbers_same, numbers_total, pair_order, pairs_same, pairs_total};
 
 use crate::order::TotalOrder;
 use std::cmp::Ordering;
@@ -13,11 +12,11 @@ impl TotalOrder for usize {
 
     ghost order = { number_order };
 
-    ghost same = { Prim.search rules };
+    ghost same = { numbers_same };
 
-    ghost converse = { Prim.search rules };
+    ghost converse = { λ a b. numbers_total.antisymm b a };
 
-    ghost transitive = { Prim.search rules };
+    ghost transitive = { numbers_total.trans };
 
     fn compare(&self, other: &usize) -> Ordering {
         self.cmp(other)
@@ -31,11 +30,11 @@ impl TotalOrder for (usize, usize) {
 
     ghost order = { pair_order };
 
-    ghost same = { Prim.search rules };
+    ghost same = { pairs_same };
 
-    ghost converse = { Prim.search rules };
+    ghost converse = { λ p q. pairs_total.antisymm q p };
 
-    ghost transitive = { Prim.search rules };
+    ghost transitive = { pairs_total.trans };
 
     fn compare(&self, other: &(usize, usize)) -> Ordering {
         self.0.compare(&other.0).then(self.1.compare(&other.1))
