@@ -54,13 +54,12 @@ pub fn sum(heap: Global, e: Expr, f: Expr) -> Result<Expr, AllocError>
 }
 
 // Whether e is among the summands of f.
-#[tactic(auto, using(crate::proofs::Derived::eq_is_equal))]
 fn is_summand(e: &Expr, f: &Expr) -> bool
     ensures { result ≡ is_summand (model e.now) (model f.now) }
 {
     match f {
-        Expr::Sum(a, b) => *e == **a || is_summand(e, b),
-        _ => e == f,
+        Expr::Sum(a, b) => e.equals(a) || is_summand(e, b),
+        _ => e.equals(f),
     }
 }
 

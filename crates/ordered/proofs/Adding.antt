@@ -16,7 +16,7 @@ use Rattle.ordered.proofs.Membership.{rising_insert, member_insert}
 module _ {A : Type 0} {eq : A → A → Bool} {cmp : A → A → Ordering} (o : IsTotalOrder cmp) (ties : (x y : A) → eq x y ≡ eq_by_cmp cmp x y)
     (x : A) (n p : ℕ) (s t : List A) (at : Placed eq cmp x (take n s) (Err p))
     (front : take (n + 1) t ≡ take p (take n s) ++ x ∷ drop p (take n s)) where
-  put_in : take (n + 1) t ≡ insert_key cmp (take n s) x
+  pub put_in : take (n + 1) t ≡ insert_key cmp (take n s) x
   put_in = front ∙ sym at.2
 
   pub still_rising : IsStrictlySortedBy cmp (take n s) → IsStrictlySortedBy cmp (take (n + 1) t)
@@ -30,7 +30,7 @@ module _ {A : Type 0} {eq : A → A → Bool} {cmp : A → A → Ordering} (o : 
       sym (at_drop_more admitted s n x lt)
       ∙ ap (λ (b : Bool). cond {A = Result Bool Full} b (Ok false) (admitted (drop n s))) (sym at.1)
 
-module _ {A : Type 0} {o : _} {e : _} {p : _} (eq : A → A → Bool) (x : A) (l : OrderedList A o e p) where
+module _ {A : Type 0} {o : _} (eq : A → A → Bool) (x : A) (l : OrderedList A o) where
   -- what is new is told
   pub told_new : (new : Bool) → Ok new ≡ answer eq x l → new ≡ not (is_member eq (members l) x)
   told_new new h = go (is_member eq (members l) x) (spare l) h

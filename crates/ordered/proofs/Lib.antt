@@ -1,4 +1,5 @@
 pub mod Adding
+pub mod Contents
 pub mod Membership
 mod Opening
 mod Placing

@@ -11,7 +11,7 @@ use Rattle.std.proofs.Math.Bool.{or_comm, or_assoc}
 use Rattle.std.proofs.lemmas.Bool.{or_from}
 use Rattle.std.proofs.lemmas.Cmp.{alike_right}
 use Rattle.std.proofs.lemmas.Map.Keys.{IsDistinct-from_sorted}
-use Rattle.ordered.specs.Insertion.{insert_all, InTurn}
+use Rattle.ordered.specs.Insertion.{insert_all}
 
 or_again : (b c : Bool) → (b || c) ≡ ((b || c) || b)
 or_again true c = refl
@@ -110,11 +110,12 @@ module _ {A : Type 0} {eq : A → A → Bool} {cmp : A → A → Ordering} (o : 
   unfolding IsStrictlySortedBy
   rising_none = tt
 
-  pub in_turn : (xs : List A) → InTurn eq cmp xs
-  in_turn xs =
-      let up = rising_all xs [] rising_none in
-      record {
-        rising = up;
-        distinct = subst (λ (e : A → A → Bool). IsDistinct e (insert_all cmp xs [])) (λ i x y. sym (ties x y) i) (IsDistinct-from_sorted cmp (insert_all cmp xs []) up);
-        holds = member_all xs [];
-      }
+  -- what many addings from an empty list make
+  pub all_added : (xs : List A) → IsStrictlySortedBy cmp (insert_all cmp xs []) × IsDistinct eq (insert_all cmp xs [])
+      × ((q : A) → is_member eq (insert_all cmp xs []) q ≡ is_member eq xs q)
+  all_added xs =
+      let up = rising_all xs [] rising_none in (
+        up,
+        subst (λ (e : A → A → Bool). IsDistinct e (insert_all cmp xs [])) (λ i x y. sym (ties x y) i) (IsDistinct-from_sorted cmp (insert_all cmp xs []) up),
+        member_all xs [],
+      )

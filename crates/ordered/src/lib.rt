@@ -4,6 +4,8 @@
 mod full;
 mod laws;
 mod list;
+mod order;
+mod pairs;
 mod place;
 #[cfg(test)]
 mod tests;
@@ -11,3 +13,4 @@ mod tests;
 pub use full::Full;
 pub use laws::adding_in_turn;
 pub use list::OrderedList;
+pub use order::TotalOrder;

@@ -1,22 +1,23 @@
-ghost use Rattle.std.specs.Prelude.{◌≡◌, ◌≤◌, ◌||◌, [], length, take, drop, MatchResult, OnOk};
+ghost use Rattle.std.specs.Prelude.{◌≡◌, ◌≤◌, ◌||◌, ◌⊎◌, ◌↔◌, [], length, take, drop, Decides, MatchResult, OnOk};
 ghost use Rattle.std.specs.List.Sorted.{IsStrictlySortedBy, IsStrictlySortedBy-prop};
 ghost use Rattle.std.specs.BTreeSet.{insert_key};
 ghost use Rattle.std.specs.Set.{is_member};
-ghost use Rattle.ordered.specs.Insertion.{Placed};
+ghost use Rattle.ordered.specs.Insertion.{by_content, same_content, Holds, Placed};
 
 use crate::full::Full;
+use crate::order::TotalOrder;
 use crate::place::insert_at;
 
-/// The members are the first of the store, each before the next, so that no two are equal.
+/// The members are the first of the store, each before the next, so that no two have the same content.
 #[derive(Drop)]
-pub struct OrderedList<'s, E: Ord> {
+pub struct OrderedList<'s, E: TotalOrder> {
     store: &'s mut [E],
     len: usize,
     pub ghost within: { len ≤ length store.now },
-    pub ghost rising: { IsStrictlySortedBy E.cmp (take len store.now) } by { IsStrictlySortedBy-prop E.cmp (take len store.now) },
+    pub ghost rising: { IsStrictlySortedBy (by_content E.TotalOrder.content E.TotalOrder.order) (take len store.now) } by { IsStrictlySortedBy-prop (by_content E.TotalOrder.content E.TotalOrder.order) (take len store.now) },
 }
 
-impl<'s, E: Ord + Drop> OrderedList<'s, E> {
+impl<'s, E: TotalOrder + Drop> OrderedList<'s, E> {
     ghost use Rattle.ordered.specs.Lists.{members, spare, answer, taken};
 
     /// An empty list; what is added to it goes to the front of the store.
@@ -46,14 +47,15 @@ impl<'s, E: Ord + Drop> OrderedList<'s, E> {
     /// The members, in rising order.
     pub fn members(&self) -> &[E]
         ensures all { result.now ≡ members self.now }
-        ensures rises { IsStrictlySortedBy E.cmp result.now }
+        ensures rises { IsStrictlySortedBy (by_content E.TotalOrder.content E.TotalOrder.order) result.now }
     {
         &self.store[..self.len]
     }
 
-    /// Whether a member is equal to x.
+    /// Whether a member has the content of x.
     pub fn contains(&self, x: &E) -> bool
-        ensures { result ≡ is_member E.eq (members self.now) x.now }
+        ensures exact { result ≡ is_member (same_content E.TotalOrder.content E.TotalOrder.order) (members self.now) x.now }
+        ensures decides { Decides result (Holds E.TotalOrder.content (E.TotalOrder.content x.now) (members self.now)) }
     {
         self.search(x).is_ok()
     }
@@ -61,11 +63,12 @@ impl<'s, E: Ord + Drop> OrderedList<'s, E> {
     /// Whether x was new. A full store refuses what is new, and then nothing has changed.
     pub fn add(&mut self, x: E) -> Result<bool, Full>
         ensures lent { self.new.store.ghost_name ≡ self.old.store.ghost_name }
-        ensures answers { result ≡ answer E.eq x self.old }
-        ensures exact { MatchResult result (λ _. members self.new ≡ insert_key E.cmp (members self.old) x) (λ _. self.new ≡ self.old) }
+        ensures answers { result ≡ answer (same_content E.TotalOrder.content E.TotalOrder.order) x self.old }
+        ensures exact { MatchResult result (λ _. members self.new ≡ insert_key (by_content E.TotalOrder.content E.TotalOrder.order) (members self.old) x) (λ _. self.new ≡ self.old) }
         ensures rest { spare self.new ≡ drop (taken result) (spare self.old) }
         ensures room { length self.new.store.now ≡ length self.old.store.now }
-        ensures holds { OnOk result ((q : E) → is_member E.eq (members self.new) q ≡ (is_member E.eq (members self.old) q || E.eq q x)) }
+        ensures holds { OnOk result ((a : E.TotalOrder.Content) → Holds E.TotalOrder.content a (members self.new) ↔ (Holds E.TotalOrder.content a (members self.old) ⊎ (E.TotalOrder.content x ≡ a))) }
+        ensures found { OnOk result ((q : E) → is_member (same_content E.TotalOrder.content E.TotalOrder.order) (members self.new) q ≡ (is_member (same_content E.TotalOrder.content E.TotalOrder.order) (members self.old) q || same_content E.TotalOrder.content E.TotalOrder.order q x)) }
     {
         match self.search(&x) {
             Ok(_) => Ok(false),
@@ -80,10 +83,10 @@ impl<'s, E: Ord + Drop> OrderedList<'s, E> {
         }
     }
 
-    // Where an equal one is, or where x would go.
+    // Where one of its content is, or where x would go.
     fn search(&self, x: &E) -> Result<usize, usize>
-        ensures { Placed E.eq E.cmp x.now (members self.now) result }
+        ensures { Placed (same_content E.TotalOrder.content E.TotalOrder.order) (by_content E.TotalOrder.content E.TotalOrder.order) x.now (members self.now) result }
     {
-        self.members().binary_search(x)
+        self.members().binary_search_by(|y| y.compare(x))
     }
 }

@@ -1,11 +1,13 @@
 -- A list that was built in order rises, and has the same members.
-use Rattle.std.proofs.Common.{◌≡◌, ℕ, true, ◌⊎◌, List, [], ◌∷◌, Ordering, Less, Equal, Greater, sym, refl, ap, ◌∙◌, subst, inl, inr, ⊎_elim}
-use Rattle.std.specs.Cmp.{IsTotalOrder, Equal-is}
-use Rattle.std.proofs.lemmas.Cmp.{on_total, nat_list_cmp_total}
-use Rattle.std.specs.Ordering.{match_ordering, eq_by_cmp, is_eq}
+use Rattle.std.proofs.Common.{◌≡◌, ℕ, true, ◌⊎◌, List, [], ◌∷◌, Ordering, Less, Equal, Greater, sym, ap, ◌∙◌, subst, inl, inr, ⊎_elim}
+use Rattle.std.specs.Cmp.{Equal-is}
+use Rattle.std.specs.Cmp.Lexicographic.{slice_cmp}
+use Rattle.std.specs.FinMap.{nat_cmp-IsAntisymmetric, slice_cmp-IsAntisymmetric}
+use Rattle.std.proofs.lemmas.Cmp.{nat_list_cmp_total}
+use Rattle.std.specs.Ordering.{match_ordering, eq_by_cmp, is_eq, nat_cmp}
 use Rattle.std.specs.List.Sorted.{IsStrictlySortedBy}
 use Rattle.ordered.specs.Insertion.{InTurn}
-use Rattle.ordered.proofs.Membership.{in_turn}
+use Rattle.ordered.proofs.Contents.{in_turn}
 use Rattle.traces.specs.Members.{Member}
 use Rattle.traces.specs.Words.{Rel}
 use Rattle.traces.specs.Expressions.{Exp, EventsBelow}
@@ -21,11 +23,10 @@ use Rattle.expressions.proofs.Bounds.{events_below}
 use Rattle.sets.specs.Sets.{insert, insert_each, sorted, SameMembers}
 use Rattle.sets.proofs.Searching.{some_decides}
 
-total : IsTotalOrder order
-total = on_total symbols nat_list_cmp_total
-
-built : (Es : List Exp) → InTurn (eq_by_cmp order) order Es
-built Es = in_turn total (λ E F. refl) Es
+built : (Es : List Exp) → InTurn symbols (slice_cmp nat_cmp) Es
+built Es =
+    let o = nat_list_cmp_total in
+    in_turn symbols (slice_cmp nat_cmp) (slice_cmp-IsAntisymmetric nat_cmp-IsAntisymmetric) (λ a b. o.antisymm b a) o.trans Es
 
 pub sorted_rises : (Es : List Exp) → IsStrictlySortedBy order (sorted Es)
 sorted_rises Es = (built Es).rising
@@ -57,7 +58,7 @@ sorted_same Es below = (within, λ E m. back E m)
     back : (E : Exp) → Member E Es → Member E (sorted Es)
     back E m =
         let like : eq_by_cmp order E E ≡ true = ap is_eq (order_total.0 E) in
-        let found = (built Es).holds E ∙ (some_decides (eq_by_cmp order E) Es).1 (E, m, like) in
+        let found = (built Es).members E ∙ (some_decides (eq_by_cmp order E) Es).1 (E, m, like) in
         let s = (some_decides (eq_by_cmp order E) (sorted Es)).0 found in
         subst (λ F. Member F (sorted Es)) (sym (order_equal.1 E s.0 (below E m) (below s.0 (within s.0 s.1)) ((Equal-is (order E s.0)).0 s.2))) s.1
 

@@ -1,11 +1,14 @@
 -- When the set of expressions that is being built gets too wide.
 use Rattle.std.proofs.Common.{◌≡◌, ℕ, suc, ◌+◌, ◌≤◌, Bool, true, false, ◌||◌, cond, ltb, leb, List, [], ◌∷◌, ◌++◌, length, IsErrAnd, Ok, Err, Result, Ordering, Less, Equal, Greater, sym, refl, ap, ◌∙◌, subst, inl, inr, arith}
-use Rattle.std.specs.Ordering.{match_ordering}
+use Rattle.std.specs.Cmp.Lexicographic.{slice_cmp}
+use Rattle.std.specs.Ordering.{match_ordering, nat_cmp, eq_by_cmp}
 use Rattle.std.specs.Prelude.{MatchResult}
 use Rattle.std.specs.BTreeSet.{insert_key}
 use Rattle.std.specs.Set.{is_member}
+use Rattle.std.proofs.lemmas.Cmp.{on_total, nat_list_cmp_total}
 use Rattle.std.proofs.lemmas.List.{length-map, length-take}
 use Rattle.std.proofs.lemmas.Bool.{ltb-true, lt-ltb, le-ltb, leb-true, leb-false, or_cases, or_parts, or_from, or_left, or_right}
+use Rattle.ordered.specs.Insertion.{by_content}
 use Rattle.ordered.specs.Lists.{members, admitted}
 use Rattle.ordered.specs.declared.full.Full.{Full}
 use Rattle.ordered.specs.declared.list.OrderedList.{OrderedList}
@@ -13,12 +16,8 @@ use Rattle.ordered.proofs.Membership.{insert_new}
 use Rattle.traces.specs.Expressions.{Exp}
 use Rattle.traces.specs.Order.{size, order}
 use Rattle.traces.proofs.Ordering.{size_counts_symbols, order_equal}
-use Rattle.expressions.specs.Model.{model, models}
+use Rattle.expressions.specs.Model.{model, models, symbols_of}
 use Rattle.expressions.specs.declared.expr.Expr.{Expr}
-use Rattle.expressions.specs.contracts.expr.ExprPartialEq.TheImpl as same
-use Rattle.expressions.specs.contracts.expr.ExprOrd.TheImpl as ord
-use Rattle.expressions.specs.contracts.expr.ExprOrd.TheImpl.Laws as ords
-use Rattle.expressions.proofs.Derived.{cmp_is_order}
 use Rattle.sets.specs.Sets.{insert, insert_each, any_large, wide}
 use Rattle.sets.specs.Refusals.{Refused, Becomes}
 use Rattle.sets.specs.declared.refusal.SetRefusal.{SetRefusal}
@@ -66,8 +65,12 @@ wide_each (F ∷ Fs) Es h = wide_each Fs (insert F Es) (wide-insert F Es h)
 
 -- ── one adding ──
 
-pub models-insert : (d : Expr) (es : List Expr) → models (insert_key ord.ghosts.cmp es d) ≡ insert (model d) (models es)
-models-insert = map-insert model ord.ghosts.cmp order cmp_is_order
+-- the order in which the list keeps them
+abbrev by_symbols : Expr → Expr → Ordering
+by_symbols = by_content symbols_of (slice_cmp nat_cmp)
+
+pub models-insert : (d : Expr) (es : List Expr) → models (insert_key by_symbols es d) ≡ insert (model d) (models es)
+models-insert = map-insert model by_symbols order (λ e f. refl)
 
 pub too_large : (E : Exp) (Es : List Exp) → leb (size E) 120 ≡ false → wide (insert E Es) ≡ true
 too_large E Es h =
@@ -79,13 +82,13 @@ no_room f true free e = let no : ◌≡◌ {A = ℕ} 0 1 = cc in absurd (omega a
 no_room f false [] e = (refl, refl)
 no_room f false (x ∷ free) e = let no : ◌≡◌ {A = ℕ} 0 1 = cc in absurd (omega arith)
 
-pub too_many : (d : Expr) (es free : List Expr) (f : Full) → Err f ≡ cond (is_member same.ghosts.eq es d) (Ok false) (admitted free)
+pub too_many : (d : Expr) (es free : List Expr) (f : Full) → Err f ≡ cond (is_member (eq_by_cmp by_symbols) es d) (Ok false) (admitted free)
     → length es + length free ≡ 32 → wide (insert (model d) (models es)) ≡ true
 too_many d es free f e room =
-    let full = no_room f (is_member same.ghosts.eq es d) free e in
-    let one_more = insert_new ords.total-law ords.matches_eq-law d es full.0 in
+    let full = no_room f (is_member (eq_by_cmp by_symbols) es d) free e in
+    let one_more = insert_new (on_total symbols_of nat_list_cmp_total) (λ e g. refl) d es full.0 in
     let long : length (insert (model d) (models es)) ≡ suc (length es) =
-    sym (ap length (models-insert d es)) ∙ length-map (insert_key ord.ghosts.cmp es d) model ∙ one_more in
+    sym (ap length (models-insert d es)) ∙ length-map (insert_key by_symbols es d) model ∙ one_more in
     or_left _ (any_large (insert (model d) (models es))) (lt-ltb 32 (length (insert (model d) (models es))) (omega (arith, long, full.1)))
 
 pub still_narrow : (E : Exp) (Es : List Exp) → leb (size E) 120 ≡ true → wide Es ≡ false → length (insert E Es) ≤ 32 → wide (insert E Es) ≡ false
@@ -94,10 +97,10 @@ still_narrow E Es small narrow few =
     (large_insert E Es ∙ or_from (ltb 120 (size E)) _ (le-ltb 120 (size E) (leb-true (size E) 120 small)) (or_parts _ _ narrow).1)
 
 -- a refusal leaves the list
-module _ {o : _} {q : _} {p : _} (d : Expr) (l after : OrderedList Expr o q p) (small : leb (size (model d)) 120 ≡ true)
+module _ {o : _} (d : Expr) (l after : OrderedList Expr o) (small : leb (size (model d)) 120 ≡ true)
     (narrow : wide (models (members l)) ≡ false) (room : length after.store.now ≡ 32) where
   pub stays_narrow : {T : Type 0} (r : Result Bool T)
-      → MatchResult r (λ _. members after ≡ insert_key ord.ghosts.cmp (members l) d) (λ _. after ≡ l) → wide (models (members after)) ≡ false
+      → MatchResult r (λ _. members after ≡ insert_key by_symbols (members l) d) (λ _. after ≡ l) → wide (models (members after)) ≡ false
   stays_narrow (Ok new) e =
       let grown : models (members after) ≡ insert (model d) (models (members l)) = ap models e ∙ models-insert d (members l) in
       ap wide grown

@@ -4,8 +4,8 @@ use Rattle.lines.specs.declared.fault.LinesFault.TheVariants.{TooLong}
 use Rattle.lines.specs.declared.field.Field.{Field}
 use Rattle.std.specs.declared.cmp.Ordering.{Ordering}
 use Rattle.std.specs.BTreeSet.{insert_key}
-use Rattle.std.specs.Ordering.{ordering_then, nat_cmp}
 use Rattle.std.specs.Set.{is_member}
+use Rattle.ordered.specs.Numbers.{pair_order}
 use Rattle.tables.specs.declared.fault.ApartFault.{ApartFault}
 use Rattle.tables.specs.declared.fault.ApartFault.TheVariants.{Names, ShortStore}
 use Rattle.tables.specs.declared.fault.NamesFault.{NamesFault}
@@ -22,7 +22,7 @@ Pair = ℕ × ℕ
 
 -- pairs by the first number, and then by the second
 abbrev pub pair_cmp : Pair → Pair → Ordering
-pair_cmp x y = ordering_then (nat_cmp x.0 y.0) (nat_cmp x.1 y.1)
+pair_cmp = pair_order
 
 abbrev pub pair_eq : Pair → Pair → Bool
 pair_eq x y = x.0 == y.0 && x.1 == y.1
