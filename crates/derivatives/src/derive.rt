@@ -52,8 +52,10 @@ impl<I: Independence> Step<'_, I> {
                 }
             }
             Expr::Star(a) => {
+                // made first, so that no kept rounds wait in memory meanwhile
+                let rounds = self.derivatives(a)?;
                 let kept = self.kept_rounds(a)?;
-                self.push_between(out, &kept, self.derivatives(a)?, star_behind(e, a))
+                self.push_between(out, &kept, rounds, star_behind(e, a))
             }
         }
     }

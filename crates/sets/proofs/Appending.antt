@@ -23,12 +23,12 @@ use Rattle.sets.proofs.Searching.{some_decides}
 
 -- ── the program's lists ──
 
-append_join : (Ds Fs Es : List Exp) → append_each (Ds ++ Fs) Es ≡ append_each Fs (append_each Ds Es)
+pub append_join : (Ds Fs Es : List Exp) → append_each (Ds ++ Fs) Es ≡ append_each Fs (append_each Ds Es)
 append_join [] Fs Es = refl
 append_join (D ∷ Ds) Fs Es = append_join Ds Fs (append D Es)
 
-pub append_step : (ds : List Expr) (d : Expr) → append (model d) (append_each (models ds) []) ≡ append_each (models (ds ++ d ∷ [])) []
-append_step ds d = sym (append_join (models ds) (model d ∷ []) []) ∙ ap (λ Es. append_each Es []) (sym (map-append model ds (d ∷ [])))
+pub append_step : (ds : List Expr) (d : Expr) (Es : List Exp) → append (model d) (append_each (models ds) Es) ≡ append_each (models (ds ++ d ∷ [])) Es
+append_step ds d Es = sym (append_join (models ds) (model d ∷ []) Es) ∙ ap (λ Fs. append_each Fs Es) (sym (map-append model ds (d ∷ [])))
 
 -- the program's test
 equal_turned : (E F : Exp) → equal E F ≡ equal F E
