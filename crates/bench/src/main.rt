@@ -81,7 +81,9 @@ fn small<I: Independence>(rt: &HostRuntime, rule: &I) -> anyhow::Result<()> {
 fn wide<I: Independence>(rt: &HostRuntime, rule: &I) -> anyhow::Result<()> {
     let step = step_by(rt, rule, 0);
     let e = stars(rt.alloc(), 32)?;
-    let set = next_set(&step, slice::from_ref(&e)).map_err(|_| anyhow!("the first set was refused"))?;
+    let set = next_set(&step, slice::from_ref(&e)).map_err(|_| anyhow!(
+        "the first set was refused"
+    ))?;
     time_next_set(rt, "32 stars, next set", &step, set.members())
 }
 
