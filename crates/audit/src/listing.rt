@@ -1,5 +1,4 @@
 //! The lines that the program prints.
-use bstr::BStr;
 use independence::apart::Apart;
 use independence::both::Both;
 use independence::footprints::Footprints;
@@ -8,13 +7,14 @@ use independence::relation::Independence;
 use lines::fault::Refusal;
 use std::alloc::{AllocError, Global};
 use std::io::{self, ErrorKind};
+use std::str;
 use tables::apart::{PAIR_LIMIT, read_apart};
 use tables::events::EventTable;
 use tables::row::Access;
 
-// A name to be shown; nothing for a number that has none.
-fn shown(name: Option<&[u8]>) -> BStr<'_> {
-    BStr::new(name.unwrap_or(b""))
+// A name as text, since the bytes of names are ASCII; nothing for a number that has none.
+fn shown(name: Option<&[u8]>) -> &str {
+    str::from_utf8(name.unwrap_or(b"")).unwrap_or("")
 }
 
 // What is printed of a table, as far as it is written.
@@ -34,7 +34,7 @@ impl<'t> Listing<'t> {
         write!(self.out, ",{what}")?;
         for (cell, name) in self.table.cells().iter().enumerate() {
             if self.table.lists(event, access, cell) {
-                write!(self.out, " {}", BStr::new(name))?;
+                write!(self.out, " {}", shown(Some(name)))?;
             }
         }
         Ok(())
@@ -44,7 +44,7 @@ impl<'t> Listing<'t> {
     fn push_events(&mut self) -> Result<(), AllocError> {
         for (event, name) in self.table.events().iter().enumerate() {
             let process = shown(self.process_name(event));
-            write!(self.out, "{event},{},{process}", BStr::new(name))?;
+            write!(self.out, "{event},{},{process}", shown(Some(name)))?;
             self.push_cells("reads", event, Access::Read)?;
             self.push_cells("writes", event, Access::Write)?;
             self.out.push_str("\r\n")?;
