@@ -1,5 +1,5 @@
 //! A field, by where it stands in its text, and the parts of one.
-ghost use Rattle.std.specs.Prelude.{◌≡◌, ◌+◌, length, min, drop};
+ghost use Rattle.std.specs.Prelude.{◌≡◌, drop};
 ghost use Rattle.std.specs.Str.{bytes_eq};
 ghost use Rattle.lines.specs.Fields.{bytes_of, parted, fields_at, exactly};
 ghost use Rattle.lines.specs.Parts.{parts_left};
@@ -14,25 +14,19 @@ pub struct Field {
 }
 
 impl Field {
-    // Where the field ends, or the text before that.
-    fn end(self, text: &[u8]) -> usize
-        ensures { result ≡ min (self.start + self.len) (length text.now) }
-    {
-        self.start.saturating_add(self.len).min(text.len())
-    }
-
     // The text as far as the field goes.
     fn upto<'a>(self, text: &'a [u8]) -> &'a [u8]
         ensures { drop self.start result.now ≡ bytes_of text.now self }
     {
-        &text[..self.end(text)]
+        &text[..self.start.saturating_add(self.len).min(text.len())]
     }
 
     /// The part of `text` that the field is; in a text that ends before, as much of it as there is.
     pub fn bytes<'a>(self, text: &'a [u8]) -> &'a [u8]
         ensures { result.now ≡ bytes_of text.now self }
     {
-        text.get(self.start..self.end(text)).unwrap_or_default()
+        let (_, rest) = text.split_at(self.start.min(text.len()));
+        &rest[..self.len.min(rest.len())]
     }
 
     /// Whether the field is just these bytes.
