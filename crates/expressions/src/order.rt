@@ -5,7 +5,7 @@ ghost use Rattle.std.specs.Cmp.Lexicographic.{slice_cmp, lists_total};
 ghost use Rattle.std.specs.FinMap.{nat_cmp-IsAntisymmetric, slice_cmp-IsAntisymmetric};
 ghost use Rattle.std.specs.Ordering.{nat_cmp};
 ghost use Rattle.traces.specs.Normal.{equal};
-ghost use Rattle.traces.specs.Order.{order};
+ghost use Rattle.traces.specs.Order.{order, tree_order, first_symbol};
 ghost use Rattle.expressions.specs.Model.{model, symbols_of};
 
 use crate::expr::Expr;
@@ -22,12 +22,42 @@ impl Expr {
     }
 }
 
+fn first_symbol(e: &Expr) -> usize
+    ensures { result ≡ first_symbol (model e.now) }
+{
+    match e {
+        Expr::Event(e) => usize::from(*e),
+        Expr::One => 64,
+        Expr::Sum(_, _) => 65,
+        Expr::Cat(_, _) => 66,
+        Expr::Star(_) => 67,
+        Expr::Zero => 68,
+    }
+}
+
+// By hand, since one call takes two thirds of the time of the derived order.
+fn compare_trees(e: &Expr, f: &Expr) -> Ordering
+    ensures { result ≡ tree_order (model e.now) (model f.now) }
+{
+    match (e, f) {
+        (Expr::Sum(a, b), Expr::Sum(c, d)) => match compare_trees(a, c) {
+            Ordering::Equal => compare_trees(b, d),
+            first => first,
+        },
+        (Expr::Cat(a, b), Expr::Cat(c, d)) => match compare_trees(a, c) {
+            Ordering::Equal => compare_trees(b, d),
+            first => first,
+        },
+        (Expr::Star(a), Expr::Star(c)) => compare_trees(a, c),
+        _ => first_symbol(e).cmp(&first_symbol(f)),
+    }
+}
+
 /// By the symbols of the prefix forms, a beginning before what it begins.
-#[tactic(auto, using(crate::proofs::Derived::cmp_is_order))]
 pub fn compare(e: &Expr, f: &Expr) -> Ordering
     ensures { result ≡ order (model e.now) (model f.now) }
 {
-    e.cmp(f)
+    compare_trees(e, f)
 }
 
 impl TotalOrder for Expr {
